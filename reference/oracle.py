@@ -14,7 +14,8 @@ words, with status 2.
     reference/oracle.py --self-test
 
 By --schedule threads it makes runs of one worker: with more, no two runs need be alike. Each row of --rows has the form
-FILE|WORD|WORD ..: what is printed with these words is written to FILE, and the status to FILE.status.
+FILE|WORD|WORD ..: what is printed with these words is written to FILE, and the status to FILE.status. With --progress
+it prints what it prints without: a million operations would take hours here.
 
 --trace prints each event and its answer on standard error; of a run by threads, each call of a seat. --events prints
 the lists of events in place of the report, as docs/EVENTS.md has them. `litmus` may be left out.
@@ -86,6 +87,7 @@ def words():
     commands.choices["trace"].add_argument("--stream", action="store_true")
     commands.choices["trace"].add_argument("--cores", type=number("cores", 1, 64), metavar="N")
     commands.choices["trace"].add_argument("--no-words", action="store_true")
+    commands.choices["trace"].add_argument("--progress", type=number("progress", 1, 2 ** 32 - 1), metavar="N")
     command = commands.add_parser("ends", allow_abbrev=False)
     command.add_argument("--states", type=number("states", 1, sequential.GREATEST), default=sequential.MOST_STATES)
     command.add_argument("--orders", action="store_true")
@@ -161,6 +163,8 @@ def refuse_stream(options):
         raise Refused(3, f"error: '--stream' needs '--schedule round' or '--schedule seed', and no '--counts'{MORE}")
     if options.command == "trace" and not options.stream and (options.cores or options.no_words):
         raise Refused(3, f"error: '--cores' and '--no-words' need '--stream'{MORE}")
+    if options.command == "trace" and not options.stream and options.progress:
+        raise Refused(3, f"error: '--progress' needs '--stream'{MORE}")
 
 
 def refuse(options):

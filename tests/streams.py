@@ -7,8 +7,9 @@ By a seed it is so with as many as the trace has; with more it must be what the 
 and its report without words. If a line is at fault, standard error says which. What was written before must be a
 beginning of the records of the lines before it, and no more than the second program can write (docs/STREAMS.md).
 
-Pipes are tried that stay open or are long, and readers that leave early. The parts are examples, faults, cut_texts,
-cores, odd_texts, pipes, memory, waits, long, which is a text of 20,000,000 lines, and at_random.
+Pipes are tried that stay open or are long, and readers that leave early. With `--progress` lines on standard error tell
+how far a run of 3,000,000 operations is; all else must be as without. The parts are examples, faults, cut_texts,
+cores, odd_texts, pipes, memory, waits, progress, long, which is a text of 20,000,000 lines, and at_random.
 --traces and --seed say how many traces are drawn, and which. --self-test spoils each answer: first the status, then the
 output, then standard error; and says which comparison doesn't notice. The last line is `N tried, M wrong`.
 """
@@ -34,6 +35,11 @@ WITHOUT_WORDS = ["--no-words"], ["--no-words", "--json"]
 AHEAD = 4096  # steps that are read ahead at least
 BLOCK = 1024  # steps of a core that wait together
 NO_LIMIT = ["--limit", "4294967295"]
+MILLION = 1000000
+# A line of `--progress`, and the lines of a report that have the same numbers at the end of the run.
+PROGRESS = re.compile(r"tardis: (\d+) operations, (\d+) renewals, (\d+) upgrades, (\d+) flushes, "
+                      r"(\d+) write-backs, (\d+) stale hits\n")
+COUNTED = "completed", "renewals", "upgrades", "flushes", "write-backs", "stale-hits"
 # What spoils an answer: a part of status, output and standard error each.
 SPOILERS = {"status": lambda status, out, error: (status ^ 1, out, error),
             "output": lambda status, out, error: (status, other_digit(out), error),
@@ -430,6 +436,78 @@ def waits(tester, folder):
     tester.covers(a_step < 24, f"a step that waits takes {a_step:.0f} bytes")
 
 
+def numbers_of(report):
+    """The numbers of a report that lines of progress have, too."""
+    told = dict(line.split(" ", 1) for line in report.splitlines())
+    return tuple(int(told[name]) for name in COUNTED)
+
+
+def is_progress(error, every, end):
+    """Whether these are the lines of a run that ends with such numbers: one soon behind each multiple, and no other."""
+    told = [tuple(map(int, line)) for line in PROGRESS.findall(error)]
+    passed = [line[0] // (every * MILLION) for line in told]
+    soon = all(line[0] % (every * MILLION) < 2 * AHEAD for line in told)
+    falls = any(before > after for one, later in zip(told, [*told[1:], end]) for before, after in zip(one, later))
+    return PROGRESS.sub("", error) == "" and passed == list(range(1, end[0] // (every * MILLION) + 1)) and soon and \
+        not falls and (not told or told[-1] == end or told[-1][0] < end[0])
+
+
+def turns_of(tester, completed, *words):
+    """The report on the run that is cut where this number of operations is completed."""
+    least, most = 1, completed
+    while least < most:
+        middle = (least + most) // 2
+        report = tester.run("trace", "--stream", *words, "--limit", str(middle), "/dev/stdin", text=MIXED * 250000)[1]
+        least, most = (middle + 1, most) if numbers_of(report)[0] < completed else (least, middle)
+    return tester.run("trace", "--stream", *words, "--limit", str(least), "/dev/stdin", text=MIXED * 250000)[1]
+
+
+MIXED = b"0 W 0x0 1\n1 R 0x0\n2 R 0x8\n0 R 0x8\n1 S 0x8 3\n2 R 0x0\n"  # 2,000,000 lines and more have stale hits
+
+
+def progress(tester, folder):
+    """How far a run of 3,000,000 operations is: its lines, which change nothing else, and the numbers in them."""
+    path = Path(folder, "mixed.trace")
+    path.write_bytes(MIXED * (MILLION // 2))
+    for policy in NO_LIMIT, by_seed(NO_LIMIT, 3), ["--limit", "1500000"]:
+        words = ["--cores", "3", *policy, str(path)]
+        plain = tester.run("trace", "--stream", *words)
+        end = numbers_of(plain[1])
+        tester.covers(end[0] > MILLION and min(end) > 0, f"{policy}: {shown(plain)}")
+        for every in 1, 2, 3, 4:
+            got = tester.stream("--progress", str(every), *words)
+            tester.expect(got[:2] == plain[:2] and is_progress(got[2], every, end), f"{every} {policy}: {shown(got)}")
+        lines = tester.run("trace", "--stream", "--progress", "1", *words)[2]
+        for form in ["--records"], ["--json"], ["--no-words"]:
+            status, out, error = tester.run("trace", "--stream", *form, *words)
+            got = tester.stream("--progress", "1", *form, *words)
+            tester.expect(got == (status, out, lines) and error == "", f"{form} {policy}: {shown(got)}")
+        unheard(tester, words, plain)
+    text = MIXED * 250000
+    got = tester.stream("--progress", "1", "--cores", "3", *NO_LIMIT, "/dev/stdin", text=text + b"0 X\n")
+    line = got[2].partition("\n")[0] + "\n"
+    told = PROGRESS.fullmatch(line)
+    tester.expect(got == (2, "", f"{line}tardis: line {6 * 250000 + 1}: 5 BadOperation\n") and told is not None
+                  and is_progress(line, 1, numbers_of(turns_of(tester, int(told[1]), "--cores", "3"))),
+                  f"a fault behind a line: {shown(got)}")
+
+
+def unheard(tester, words, plain):
+    """Standard error is closed, full, or a pipe that nobody reads: only the lines are missing."""
+    for how in "2>&-", "2>/dev/full":
+        done = subprocess.run(["sh", "-c", f'exec "$0" "$@" {how}', tester.program, "trace", "--stream", "--progress",
+                               "1", *words], stdin=subprocess.DEVNULL, stdout=subprocess.PIPE, timeout=PATIENCE)
+        got = tester.came((done.returncode, done.stdout.decode(), ""))
+        tester.expect(got == plain, f"{how} {words}: {shown(got)}")
+    reader, writer = os.pipe()
+    os.close(reader)
+    done = subprocess.run([tester.program, "trace", "--stream", "--progress", "1", *words], stdin=subprocess.DEVNULL,
+                          stdout=subprocess.PIPE, stderr=writer, timeout=PATIENCE)
+    os.close(writer)
+    got = tester.came((done.returncode, done.stdout.decode(), ""))
+    tester.expect(got == plain, f"a pipe that nobody reads, {words}: {shown(got)}")
+
+
 def long(tester, folder):
     """More lines than `trace` takes."""
     count = 20000000
@@ -439,8 +517,8 @@ def long(tester, folder):
     tester.covers(peak < 64, f"{count} lines take {peak:.0f} MB")
 
 
-PARTS = {part.__name__: part for part in (examples, faults, cut_texts, cores, odd_texts, pipes, memory, waits, long,
-                                          at_random)}
+PARTS = {part.__name__: part for part in (examples, faults, cut_texts, cores, odd_texts, pipes, memory, waits, progress,
+                                          long, at_random)}
 
 
 def tried(tester, parts):

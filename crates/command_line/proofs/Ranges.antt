@@ -4,7 +4,7 @@ use Rattle.std.specs.Prelude.{unwrap_or}
 use Rattle.std.specs.Str.Parse.{digits_value, without_leading_plus}
 use Rattle.clap.specs.Words.{Row, Text}
 use Rattle.run_options.specs.declared.options.RunOptions.{RunOptions}
-use Rattle.command_line.specs.Options.{EveryIsInRange, IsNumberIn, IsNumberOf, RunIsInRange, TellsRun, WritesWithin}
+use Rattle.command_line.specs.Options.{IsNumberIn, IsNumberOf, MayBeWithin, RunIsInRange, TellsRun, WritesWithin}
 
 pub some_in_range : (o : Option Text) (least most n : ℕ) → IsNumberIn o least most (Some n) → (least ≤ n) × (n ≤ most)
 some_in_range o least most n is = (is.2.1, is.2.2)
@@ -17,12 +17,12 @@ in_range o least most other value low high (Some n, is, same) =
 in_range o least most other value low high (None, is, same) =
     (subst (λ (k : ℕ). least ≤ k) (sym same) low, subst (λ (k : ℕ). k ≤ most) (sym same) high)
 
-pub every_in_range : (o : Option Text) (every : Option ℕ) → IsNumberIn o 1 18446744073709551615 every →
-    EveryIsInRange every
-every_in_range o (Some m) is = λ n same.
+pub may_be_within : (o : Option Text) (least most : ℕ) (value : Option ℕ) → IsNumberIn o least most value →
+    MayBeWithin least most value
+may_be_within o least most (Some m) is = λ n same.
     let equal : m ≡ n = cc in
-    subst (λ (k : ℕ). (1 ≤ k) × (k ≤ 18446744073709551615)) equal (some_in_range o _ _ m is)
-every_in_range o None is = λ n same. absurd cc
+    subst (λ (k : ℕ). (least ≤ k) × (k ≤ most)) equal (some_in_range o _ _ m is)
+may_be_within o least most None is = λ n same. absurd cc
 
 pub run_in_range : (rows : List Row) (options : RunOptions) → TellsRun rows options → RunIsInRange options
 run_in_range rows options t = record {

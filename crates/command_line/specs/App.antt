@@ -102,10 +102,12 @@ abbrev pub count_rules : List Rule
 count_rules =
     flag_rule (codes "records") ∷ flag_rule (codes "counts") ∷ bare_rule (codes "every") from_one ∷ json_rule ∷ []
 
--- a trace may be read as the run goes, by a machine of so many cores, and with no words in its report
+-- a trace may be read as the run goes, by a machine of so many cores, with no words in its report, and with a line each
+-- time that so many million operations are completed
 abbrev pub stream_rules : List Rule
 stream_rules =
-    flag_rule (codes "stream") ∷ bare_rule (codes "cores") (up_to 64) ∷ flag_rule (codes "no-words") ∷ []
+    flag_rule (codes "stream") ∷ bare_rule (codes "cores") (up_to 64) ∷ flag_rule (codes "no-words")
+    ∷ bare_rule (codes "progress") (up_to 4294967295) ∷ []
 
 abbrev pub trace_app : ValueParser → App
 trace_app p = with_run_and_file (with_rules (with_rules (new_app (codes "trace")) count_rules) stream_rules) p

@@ -6,11 +6,11 @@ use Rattle.clap.specs.declared.error.kind.ErrorKind.{ErrorKind}
 use Rattle.command_line.specs.App.{NameSchedules, Parsers, tardis_app}
 use Rattle.command_line.specs.Options.{HasPath, HasWord, IsOrder, TellsAsked, TellsCheck, TellsEnds, TellsLitmus}
 use Rattle.command_line.specs.Options.{cores_in_vain, counts_in_vain, json_in_vain, rows_in_vain, stream_in_vain}
-use Rattle.command_line.specs.Options.{stream_of}
+use Rattle.command_line.specs.Options.{progress_in_vain, stream_of}
 use Rattle.command_line.specs.declared.options.Asked.{Asked}
 use Rattle.command_line.specs.declared.words.Conflict.{Conflict}
 use Rattle.command_line.specs.declared.words.Conflict.TheVariants.{Fair, Counts, Every, Json}
-use Rattle.command_line.specs.declared.words.Conflict.TheVariants.{Stream as StreamConflict, Cores}
+use Rattle.command_line.specs.declared.words.Conflict.TheVariants.{Stream as StreamConflict, Cores, Progress}
 use Rattle.command_line.specs.declared.words.Job.{Job}
 use Rattle.command_line.specs.declared.words.Job.TheVariants.{Litmus, Ends, Trace, Stream, Check}
 use Rattle.command_line.specs.declared.words.WordsError.{WordsError}
@@ -23,7 +23,8 @@ conflict_of asked =
     else (if rows_in_vain asked.trace then Some Every
     else (if json_in_vain asked.trace then Some Json
     else (if stream_in_vain asked then Some StreamConflict
-    else (if cores_in_vain asked then Some Cores else None))))
+    else (if cores_in_vain asked then Some Cores
+    else (if progress_in_vain asked then Some Progress else None)))))
 
 -- the words ask for this run of a trace, which can be had
 abbrev pub AskForTrace : Text → List Row → Asked → Type 0
@@ -75,6 +76,7 @@ conflict_text Json = codes "error: '--json' cannot be used with '--records'\n\n"
 conflict_text StreamConflict =
     codes "error: '--stream' needs '--schedule round' or '--schedule seed', and no '--counts'\n\n" ++ more_text
 conflict_text Cores = codes "error: '--cores' and '--no-words' need '--stream'\n\n" ++ more_text
+conflict_text Progress = codes "error: '--progress' needs '--stream'\n\n" ++ more_text
 
 -- clap's rules find a fault of this kind in the words
 abbrev pub IsFaulty : List Text → ErrorKind → Type 0

@@ -141,12 +141,13 @@ TellsTrace rows options =
     × MayHaveNumber rows (codes "every") 1 18446744073709551615 options.every
     × IsFlag rows (codes "json") options.json × TellsRun rows options.run
 
--- how a trace is run, whether it is read as the run goes, and what is said of that: how many cores there are, and that
--- its report has no words
+-- how a trace is run, whether it is read as the run goes, and what is said of that: how many cores there are, that its
+-- report has no words, and after how many million operations each a line is written
 abbrev pub TellsAsked : List Row → Asked → Type 0
 TellsAsked rows asked =
     TellsTrace rows asked.trace × IsFlag rows (codes "stream") asked.stream
     × MayHaveNumber rows (codes "cores") 1 64 asked.cores × IsFlag rows (codes "no-words") asked.no_words
+    × MayHaveNumber rows (codes "progress") 1 4294967295 asked.progress
 
 -- the options of a trace that is read as the run goes
 abbrev pub stream_of : Asked → StreamOptions
@@ -155,6 +156,7 @@ stream_of asked = record {
   words = not asked.no_words;
   json = asked.trace.json;
   cores = unwrap_or asked.cores stream_default.cores;
+  progress = asked.progress;
   run = asked.trace.run;
 }
 
@@ -163,9 +165,9 @@ abbrev pub TellsCheck : List Row → CheckOptions → Type 0
 TellsCheck rows options =
     IsFlag rows (codes "complete") options.complete × IsFlag rows (codes "json") options.json
 
--- a row of counts for each 1 to 18,446,744,073,709,551,615 completed operations, or none
-abbrev pub EveryIsInRange : Option ℕ → Type 0
-EveryIsInRange every = (n : ℕ) → every ≡ Some n → (1 ≤ n) × (n ≤ 18446744073709551615)
+-- a number from least to most, or none
+abbrev pub MayBeWithin : ℕ → ℕ → Option ℕ → Type 0
+MayBeWithin least most value = (n : ℕ) → value ≡ Some n → (least ≤ n) × (n ≤ most)
 
 abbrev pub is_shared : Schedule → Bool
 is_shared Round = false
@@ -193,3 +195,7 @@ stream_in_vain asked = asked.stream && (asked.trace.counts || is_shared asked.tr
 -- a number of cores is asked for, or no words, but the trace is read before it runs
 abbrev pub cores_in_vain : Asked → Bool
 cores_in_vain asked = not asked.stream && (is_some asked.cores || asked.no_words)
+
+-- lines that tell how far a run is are asked for, but the trace is read before it runs
+abbrev pub progress_in_vain : Asked → Bool
+progress_in_vain asked = not asked.stream && is_some asked.progress

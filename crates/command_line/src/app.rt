@@ -83,6 +83,10 @@ const CORES: &str =
 
 const NO_WORDS: &str = "Leaves the words out of a stream's report";
 
+const PROGRESS: &str =
+    "Writes a line on standard error each time that so many million more operations are completed, \
+    1 to 4294967295; only with --stream";
+
 const COMPLETE: &str = "Asks for a record of each operation of the trace";
 
 const OPENING: &str = "The file with the values that words open with; all others open with 0";
@@ -288,9 +292,11 @@ fn with_stream_options<'a>(
     ensures { Adds command.entry (λ app. with_rules app stream_rules) result }
 {
     let cores = value_parser!(u64).range(1..65);
+    let millions = value_parser!(u64).range(1..4294967296);
     let one = with(command, flag(alloc, "stream", STREAM));
     let two = with(one, bare(alloc, "cores", cores, CORES));
-    with(two, flag(alloc, "no-words", NO_WORDS))
+    let three = with(two, flag(alloc, "no-words", NO_WORDS));
+    with(three, bare(alloc, "progress", millions, PROGRESS))
 }
 
 /// The command `trace`.

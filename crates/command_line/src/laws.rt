@@ -9,15 +9,16 @@ ghost use Rattle.run_options.specs.declared.options.RunOptions.{RunOptions};
 ghost use Rattle.run_options.specs.declared.options.TraceOptions.{TraceOptions};
 ghost use Rattle.run_options.specs.declared.options.StreamOptions.{StreamOptions};
 ghost use Rattle.command_line.specs.Job.{GivesJob, words_number};
-ghost use Rattle.command_line.specs.Options.{EveryIsInRange, GivesNumber, GivesSome, RunIsInRange, TellsAsked};
+ghost use Rattle.command_line.specs.Options.{GivesNumber, GivesSome, MayBeWithin, RunIsInRange, TellsAsked};
 ghost use Rattle.command_line.specs.Options.{TellsEnds, TellsLitmus, TellsRun, TellsTrace, is_shared, stream_of};
 ghost use Rattle.command_line.specs.declared.options.Asked.{Asked};
 ghost use Rattle.command_line.specs.declared.words.Job.TheVariants.{Stream};
 ghost use Rattle.command_line.specs.declared.words.WordsError.TheVariants.{NoMemory, Refused};
 
 /// Options always ask for 1 to 16 workers, a limit of 1 to 4,294,967,295, 1 to 1,000,000 runs, 1 to 4,294,967,295
-/// states, 1 to 64 cores of a stream, and a row of counts for each 1 to 18,446,744,073,709,551,615 operations or for
-/// none, for any words.
+/// states and 1 to 64 cores of a stream, for any words. There is a row of counts for each 1 to
+/// 18,446,744,073,709,551,615 operations or for none, and a line of a stream's progress for each 1 to 4,294,967,295
+/// million or for none.
 pub fn options_are_in_range()
     ensures run { (rows : List Row) (options : RunOptions) → TellsRun rows options →
         RunIsInRange options }
@@ -26,13 +27,14 @@ pub fn options_are_in_range()
     ensures ends { (rows : List Row) (options : EndsOptions) → TellsEnds rows options →
         (1 ≤ options.most_states) × (options.most_states ≤ 4294967295) }
     ensures trace { (rows : List Row) (options : TraceOptions) → TellsTrace rows options →
-        RunIsInRange options.run × EveryIsInRange options.every }
+        RunIsInRange options.run × MayBeWithin 1 18446744073709551615 options.every }
     ensures stream { (rows : List Row) (asked : Asked) → TellsAsked rows asked →
-        (1 ≤ (stream_of asked).cores) × ((stream_of asked).cores ≤ 64) }
+        (1 ≤ (stream_of asked).cores) × ((stream_of asked).cores ≤ 64)
+        × MayBeWithin 1 4294967295 (stream_of asked).progress }
 {}
 
-/// A number of workers, a limit, a number of runs, of states, of a stream's cores or of operations for a row of counts
-/// that the words give, and that is in range, is the one that is taken.
+/// A number of workers, a limit, a number of runs, of states, of a stream's cores, of operations for a row of counts or
+/// of millions of them for a line of progress that the words give, and that is in range, is the one that is taken.
 pub fn numbers_in_range_are_taken()
     ensures workers { (rows : List Row) (options : RunOptions) → TellsRun rows options →
         GivesNumber rows (codes "workers") 1 16 options.workers }
@@ -46,6 +48,8 @@ pub fn numbers_in_range_are_taken()
         GivesSome rows (codes "every") 1 18446744073709551615 options.every }
     ensures cores { (rows : List Row) (asked : Asked) → TellsAsked rows asked →
         GivesNumber rows (codes "cores") 1 64 (stream_of asked).cores }
+    ensures progress { (rows : List Row) (asked : Asked) → TellsAsked rows asked →
+        GivesSome rows (codes "progress") 1 4294967295 (stream_of asked).progress }
 {}
 
 /// A trace that is read as the run goes is run by rounds, fair or not, or by a seed: no threads drive it.

@@ -6,7 +6,7 @@ ghost use Rattle.command_line.specs.Options.{HasPath, HasWord, HasAnyNumber, IsF
 ghost use Rattle.command_line.specs.Options.{IsSchedule, MayHaveNumber, TellsAsked, TellsCheck, TellsEnds};
 ghost use Rattle.command_line.specs.Options.{TellsLitmus, TellsMachine, TellsRun, TellsTrace, is_shared};
 ghost use Rattle.command_line.specs.Options.{cores_in_vain, counts_in_vain, fairly, json_in_vain, rows_in_vain};
-ghost use Rattle.command_line.specs.Options.{stream_in_vain, stream_of};
+ghost use Rattle.command_line.specs.Options.{progress_in_vain, stream_in_vain, stream_of};
 
 use clap::ArgMatches;
 use run_options::{
@@ -25,6 +25,8 @@ pub(crate) struct Asked {
     pub(crate) cores: Option<u64>,
     /// Whether its report has no words then.
     pub(crate) no_words: bool,
+    /// After how many million completed operations each a line is written then, if the words say it.
+    pub(crate) progress: Option<u64>,
 }
 
 /// The number from least to most that an option's text writes, if it writes one.
@@ -192,6 +194,7 @@ pub(crate) fn asked_of(matches: &ArgMatches<'_>) -> Option<Asked>
         stream: flag(matches, "stream"),
         cores: number_in(matches, "cores", 1, 64),
         no_words: flag(matches, "no-words"),
+        progress: number_in(matches, "progress", 1, 4294967295),
     })
 }
 
@@ -204,6 +207,7 @@ pub(crate) fn stream_of(asked: &Asked) -> StreamOptions
         words: !asked.no_words,
         json: asked.trace.json,
         cores: asked.cores.unwrap_or(StreamOptions::DEFAULT.cores),
+        progress: asked.progress,
         run: asked.trace.run,
     }
 }
@@ -258,4 +262,11 @@ pub(crate) fn cores_in_vain(asked: &Asked) -> bool
     ensures { result ≡ cores_in_vain asked.now }
 {
     !asked.stream && (asked.cores.is_some() || asked.no_words)
+}
+
+/// Whether lines that tell how far a run is are asked for in vain: of a trace that is read before it runs.
+pub(crate) fn progress_in_vain(asked: &Asked) -> bool
+    ensures { result ≡ progress_in_vain asked.now }
+{
+    !asked.stream && asked.progress.is_some()
 }

@@ -8,7 +8,7 @@ ghost use Rattle.command_line.specs.Job.{IsRefusedFor, conflict_of, conflict_tex
 use crate::app::command;
 use crate::options::{
     Asked, asked_of, check_options, cores_in_vain, counts_in_vain, ends_options, json_in_vain,
-    litmus_options, path_of, rows_in_vain, stream_in_vain, stream_of, word_of,
+    litmus_options, path_of, progress_in_vain, rows_in_vain, stream_in_vain, stream_of, word_of,
 };
 use clap::error::ErrorKind;
 use clap::{ArgMatches, Error};
@@ -37,8 +37,8 @@ pub enum Job<'a> {
 pub enum WordsError {
     /// The command line doesn't take the words, or they ask for help, or for what can't be had together: a fair
     /// schedule that is seed, counts of a run by threads or next to records, rows of counts without counts, JSON next
-    /// to records, a stream by threads or with counts, or cores or no words of no stream. This is the text to show, in
-    /// whole lines.
+    /// to records, a stream by threads or with counts, or cores, no words or lines of progress of no stream. This is
+    /// the text to show, in whole lines.
     Refused(String),
     /// Allocation failed.
     NoMemory,
@@ -81,6 +81,8 @@ enum Conflict {
     Stream,
     /// A number of cores, or no words, of a trace that is read before it runs.
     Cores,
+    /// Lines that tell how far a run is, of such a trace.
+    Progress,
 }
 
 /// What is said of it.
@@ -107,6 +109,9 @@ fn conflict_text(why: Conflict) -> &'static str
         }
         Conflict::Cores => {
             "error: '--cores' and '--no-words' need '--stream'\n\nFor more information, try '--help'.\n"
+        }
+        Conflict::Progress => {
+            "error: '--progress' needs '--stream'\n\nFor more information, try '--help'.\n"
         }
     }
 }
@@ -141,6 +146,9 @@ fn conflict_of(asked: &Asked) -> Option<Conflict>
     }
     if cores_in_vain(asked) {
         return Some(Conflict::Cores);
+    }
+    if progress_in_vain(asked) {
+        return Some(Conflict::Progress);
     }
     None
 }

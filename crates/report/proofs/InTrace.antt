@@ -146,7 +146,8 @@ module _ (lanes : List (List Step)) (config : Config) (m : Machine) (programs : 
   opened None q next = (ops_of q, refl)
   opened (Some op) q next = (ops_of (step_acts.done q None), with_op q op None next)
 
-  pub in_lane : (core : ℕ) → core < config.cores → (rest : List Op) × (ops_of (lane lanes core) ≡ issued_to core ++ rest)
+  pub in_lane : (core : ℕ) → core < config.cores → (rest : List Op) × (ops_of (lane lanes core) ≡ issued_to core ++
+      rest)
   in_lane core below =
       let s = served.each core below (nothing_open config 0 config.cores core) in
       let now_open = operation_of (slice_get m.cores core) in

@@ -14,4 +14,5 @@ mod StreamedSteps
 mod StreamedTexts
 mod StreamedPieces
 mod WrittenPieces
+mod ToldProgress
 mod StoppedPieces

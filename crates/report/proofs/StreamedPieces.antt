@@ -177,4 +177,7 @@ pub or_memory : (options : StreamOptions) (known now next : Bytes) (s : StreamSt
 or_memory options known now next s t old new e r (more, yields, few, inl stops) =
     next_refused options known now next s t old new e r (more, yields, few, stops)
 or_memory options known now next s t old new e r (more, yields, few, inr (lacks, same)) =
-    subst (λ x. IsUnread (IsStreamFault options.cores known) (Unit {0}) old new (ahead_refusal x)) (sym lacks) (same, tt)
+    subst (λ x. IsUnread (IsStreamFault options.cores known) (Unit {0}) old new (ahead_refusal x)) (sym lacks) (
+      same,
+      tt,
+    )

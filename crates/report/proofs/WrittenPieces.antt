@@ -1,5 +1,6 @@
 -- What went out of a run that was read as it went: its records so far, or its whole report.
-use Rattle.std.proofs.Common.{◌≡◌, ◌≤◌, ◌<◌, ◌&&◌, ◌-◌, not, ℕ, max, Bool, true, false, List, [], ◌∷◌, ◌++◌, length, map}
+use Rattle.std.proofs.Common.{◌≡◌, ◌≤◌, ◌<◌, ◌&&◌, ◌-◌, not, ℕ, max, Bool, true, false, List, [], ◌∷◌, ◌++◌, length}
+use Rattle.std.proofs.Common.{map}
 use Rattle.std.proofs.Common.{Option, Some, None, IfSome, refl, sym, ap, subst, ◌∙◌, arith, inl, inr, append_assoc}
 use Rattle.std.proofs.lemmas.Grind.{flat_map-append}
 use Rattle.std.proofs.lemmas.List.{append-nil}
@@ -26,21 +27,22 @@ use Rattle.trace_texts.proofs.Lemmas.{line-each, text-stands, writable}
 use Rattle.worker_driver.specs.SetUp.{limit_of}
 use Rattle.report.specs.Answers.{IsCutOff, IsReported}
 use Rattle.report.specs.Layouts.{layout_of}
+use Rattle.report.specs.Progress.{IsProgress, IsToldReport}
 use Rattle.report.specs.Reports.{TellsRecords}
 use Rattle.report.specs.Runs.{is_all_done, step_acts}
 use Rattle.report.specs.StreamParts.{HasRun, HasWritten, IsRunning, text_if, text_told, text_unless}
-use Rattle.report.specs.Streams.{IsBegun, IsStreamReport, IsStreamRun, IsStreamText, TellsStream, stream_config}
-use Rattle.report.specs.Streams.{stream_text}
+use Rattle.report.specs.Streams.{IsBegun, IsRunSoFar, IsStreamReport, IsStreamRun, IsStreamText, TellsStream}
+use Rattle.report.specs.Streams.{stream_config, stream_text}
 use Rattle.report.proofs.StreamedPieces.{read_so_far}
 use Rattle.report.proofs.StreamedSteps.{Laws, Led, stream_run}
 use Rattle.report.proofs.StreamedTexts.{ended_is}
 
-abbrev Bytes : Type 0
+abbrev pub Bytes : Type 0
 Bytes = Option (List ℕ)
 
 -- ---- one piece after the other
 
-Grows-append : (a b c : Bytes) (front more : List ℕ) → Grows a b front → Grows b c more → Grows a c (front ++ more)
+pub Grows-append : (a b c : Bytes) (front more : List ℕ) → Grows a b front → Grows b c more → Grows a c (front ++ more)
 Grows-append None b c front more p q = tt
 Grows-append (Some x) None c front more p q = absurd p
 Grows-append (Some x) (Some y) None front more p q = absurd q
@@ -52,8 +54,14 @@ grows_none None = tt
 grows_none (Some bytes) = sym (append-nil bytes)
 
 pub none_written : (asked : Bool) (old : Bytes) (rs : List Record) → rs ≡ [] → HasWritten asked old old rs
-none_written true old rs none = subst (HasWritten true old old) (sym none) (record { grows = grows_none old; ranged = λ is. tt })
-none_written false old rs none = subst (HasWritten false old old) (sym none) (record { grows = grows_none old; ranged = λ is. tt })
+none_written true old rs none = subst (HasWritten true old old) (sym none) (record {
+  grows = grows_none old;
+  ranged = λ is. tt;
+})
+none_written false old rs none = subst (HasWritten false old old) (sym none) (record {
+  grows = grows_none old;
+  ranged = λ is. tt;
+})
 
 text_more : (asked : Bool) (rs more : List Record) → text_if asked rs ++ text_if asked more ≡ text_if asked (rs ++ more)
 text_more true rs more = sym (flat_map-append record_text rs more)
@@ -71,7 +79,7 @@ more_written asked old now next rs more w grows ranged = record {
   ranged = λ is. ranged_more rs more (w.ranged is) (ranged is);
 }
 
-front_more : (old now next : Bytes) (text more : List ℕ) → Grows old now text → GrowsByFront now next more →
+pub front_more : (old now next : Bytes) (text more : List ℕ) → Grows old now text → GrowsByFront now next more →
     GrowsByFront old next (text ++ more)
 front_more old now next text more first (front, rest, is, last) = (
   text ++ front,
@@ -100,23 +108,22 @@ module _ (laws : Laws) (options : StreamOptions) (known : Bytes) (good : is_good
         rising = r.going.rising;
       }
 
+  pub is_run_so_far : (s : StreamState) (now : Bytes) → IsRunning options known s now →
+      IsRunSoFar options known s.machine
+  is_run_so_far s now r = record {
+    taken = r.taken;
+    first = read_so_far known (coming s.ahead.stream now) r.taken r.yields;
+    turns = s.limit - s.left;
+    within = let limit = r.limit in omega (arith, limit);
+    end = s.end;
+    ran = (stream_run laws options (s.limit - s.left) r.taken s.end s.machine good (led_so_far s now r)).0;
+  }
+
   -- what was written so far
   begun_text : (s : StreamState) (now : Bytes) → IsRunning options known s now → (asked : Bool) →
       options.records ≡ asked → IsBegun options known (text_if asked s.machine.records)
   begun_text s now r false is = inl refl
-  begun_text s now r true is = inr (
-    is,
-    record {
-      taken = r.taken;
-      first = read_so_far known (coming s.ahead.stream now) r.taken r.yields;
-      turns = s.limit - s.left;
-      within = let limit = r.limit in omega (arith, limit);
-      end = s.end;
-      machine = s.machine;
-      ran = (stream_run laws options (s.limit - s.left) r.taken s.end s.machine good (led_so_far s now r)).0;
-      text_is = refl;
-    },
-  )
+  begun_text s now r true is = inr (is, (s.machine, is_run_so_far s now r, refl))
 
   pub begun : (s : StreamState) (now old new : Bytes) → IsRunning options known s now →
       HasWritten options.records old new s.machine.records → IsReported (IsBegun options known) old new
@@ -175,10 +182,11 @@ module _ (laws : Laws) (options : StreamOptions) (known : Bytes) (good : is_good
   stands asked ranged is =
       let rs = s.machine.records in
       let can = writable rs ran.run.complete ranged in
-      subst (λ b. TellsRecords (text_by b) rs) (sym is) (subst (λ w. TellsRecords w rs) (sym (append-nil (records_text rs)))
+      subst (λ b. TellsRecords (text_by b) rs) (sym is) (subst (λ w. TellsRecords w rs) (sym (append-nil (records_text
+      rs)))
       (line-each rs can, text-stands rs can))
 
-  tells : (HasRanged : options.records ≡ true → AreRanged s.machine.records) →
+  abbrev tells : (HasRanged : options.records ≡ true → AreRanged s.machine.records) →
       TellsStream options r.taken (is_all_done s.end) (text_by options.records)
   tells ranged = record {
     good = good;
@@ -191,14 +199,16 @@ module _ (laws : Laws) (options : StreamOptions) (known : Bytes) (good : is_good
   }
 
   module _ (old between new : Bytes) (w : HasWritten options.records old between s.machine.records) where
-    report : IsStreamReport options known (is_all_done s.end) (text_by options.records)
+    abbrev report : IsStreamReport options known (is_all_done s.end) (text_by options.records)
     report = (r.taken, r.read, tells w.ranged)
 
-    pub reported : Grows between new (text_unless options.records (layout_of options.json) s) →
-        IsReported (IsStreamReport options known (is_all_done s.end)) old new
-    reported grows = (
+    pub told : (first last : Bytes) (before after : ℕ) →
+        IsProgress options known s.machine.records first last before after →
+        Grows between new (text_unless options.records (layout_of options.json) s) →
+        IsReported (IsToldReport options known (is_all_done s.end) first last before after) old new
+    told first last before after progress grows = (
       text_by options.records,
-      report,
+      (report, progress),
       Grows-append old between new (text_if options.records s.machine.records)
           (text_unless options.records (layout_of options.json) s) w.grows grows,
     )

@@ -14,6 +14,10 @@ IsReported IsRight old new = (text : List ℕ) × IsRight text × Grows old new 
 abbrev pub IsCutOff : (List ℕ → Type 0) → Option (List ℕ) → Option (List ℕ) → Type 0
 IsCutOff IsRight old new = (text : List ℕ) × IsRight text × GrowsByFront old new text
 
+-- what went out is a beginning of the text, and all of it if no write failed
+abbrev pub TextGoesOut : Option (List ℕ) → Option (List ℕ) → ℕ → ℕ → List ℕ → Type 0
+TextGoesOut old new failed failed' text = GrowsByFront old new text × (failed' ≡ failed → Grows old new text)
+
 -- failures of the source and of the sink are counted exactly if the answer reports them
 abbrev pub FailuresAreCounted : Result Done RunError → (read read' written written' : ℕ) → Type 0
 FailuresAreCounted (Err Read) read read' written written' = (read < read') × (written' ≡ written)

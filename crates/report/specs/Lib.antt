@@ -11,4 +11,5 @@ pub mod Reports
 pub mod Verdicts
 pub mod Openings
 pub mod Streams
+pub mod Progress
 pub mod StreamParts

@@ -1,8 +1,9 @@
 -- A run of a trace that is read as the run goes, between two of its pieces: what it has read, made and written.
 use Rattle.std.specs.Prelude.{◌≡◌, ◌<◌, ℕ, max, Bool, true, false, ◌&&◌, not, List, [], ◌++◌, Option, Some, None}
-use Rattle.std.specs.Prelude.{IfSome}
+use Rattle.std.specs.Prelude.{IfSome, length, nat_lt}
 use Rattle.byte_streams.specs.Device.{AtEnd, Grows}
 use Rattle.byte_streams.specs.Whole.{GrowsByFront}
+use Rattle.machine_table.specs.Machine.{Machine}
 use Rattle.physiological_order.specs.declared.operation.Record.{Record}
 use Rattle.physiological_order.specs.declared.verdict.Verdict.TheVariants.{Legal as LegalVerdict}
 use Rattle.programs.specs.declared.steps.Step.{Step}
@@ -22,6 +23,7 @@ use Rattle.trace_texts.specs.Reports.{told_text}
 use Rattle.worker_driver.specs.SetUp.{driver_of, limit_of}
 use Rattle.worker_driver.specs.declared.set_up.Driver.TheVariants.{ByPolicy}
 use Rattle.report.specs.Answers.{IsCutOff, IsReported}
+use Rattle.report.specs.Progress.{AreTold, lines_told, progress_line, times_passed, times_told}
 use Rattle.report.specs.Refusals.{refusal}
 use Rattle.report.specs.Streams.{IsBegun, IsReadWhole, IsStreamFault, IsStreamText, stream_config}
 
@@ -63,6 +65,28 @@ text_if false records = []
 pub record HasWritten (asked : Bool) (old new : Option (List ℕ)) (records : List Record) : Type 0 where
   pub grows : Grows old new (text_if asked records)
   pub ranged : asked ≡ true → AreRanged records
+
+-- a text went out, if no write has failed; else a beginning of it
+abbrev pub HasGoneOut : (goes : Bool) → (old new : Option (List ℕ)) → (before after : ℕ) → List ℕ → Type 0
+HasGoneOut true old new before after text = (after ≡ before) × Grows old new text
+HasGoneOut false old new before after text = (before < after) × GrowsByFront old new text
+
+-- the run's progress was told so far, of which these are the records
+pub record IsTelling (options : StreamOptions) (known : Option (List ℕ)) (records : List Record) (goes : Bool)
+    (old new : Option (List ℕ)) (before after : ℕ) : Type 0 where
+  pub told : List Machine
+  pub are : AreTold options known records told
+  pub all : times_told options.progress told ≡ times_passed options.progress (length records)
+  pub out : HasGoneOut goes old new before after (lines_told told)
+
+-- whether a line is due once so many operations are completed
+abbrev pub is_due : Option ℕ → (before after : ℕ) → Bool
+is_due every before after = nat_lt (times_passed every before) (times_passed every after)
+
+-- the line of a run, where it is due
+abbrev pub line_if : Bool → StreamState → List ℕ
+line_if true s = progress_line s.kinds.completed s.stale s.machine
+line_if false s = []
 
 -- a step of a core that the machine hasn't is the fault of its line
 abbrev pub ahead_refusal : AheadError → RunError

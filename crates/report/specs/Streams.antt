@@ -71,16 +71,19 @@ abbrev pub IsStreamReport : StreamOptions → Option (List ℕ) → Bool → Lis
 IsStreamReport options known all_done text =
     (taken : List (ℕ × (ℕ × Step))) × IsReadWhole known taken × TellsStream options taken all_done text
 
--- the text has the records of a run of the first steps that the source had, of no more turns than the options allow
-pub record BeginsRecords (options : StreamOptions) (known : Option (List ℕ)) (text : List ℕ) : Type 0 where
+-- a run of the first steps that the source had, of no more turns than the options allow, leads to this machine
+pub record IsRunSoFar (options : StreamOptions) (known : Option (List ℕ)) (machine : Machine) : Type 0 where
   pub taken : List (ℕ × (ℕ × Step))
   pub first : IsReadSoFar known taken
   pub turns : ℕ
   pub within : turns ≤ limit_of options.run
   pub end : End
-  pub machine : Machine
   pub ran : IsStreamRun options turns taken end machine
-  pub text_is : text ≡ records_text machine.records
+
+-- the text has the records of such a run
+abbrev pub BeginsRecords : StreamOptions → Option (List ℕ) → List ℕ → Type 0
+BeginsRecords options known text =
+    (machine : Machine) × IsRunSoFar options known machine × (text ≡ records_text machine.records)
 
 -- what goes out before the run has ended: nothing, or such records if they are asked for
 abbrev pub IsBegun : StreamOptions → Option (List ℕ) → List ℕ → Type 0

@@ -175,11 +175,11 @@ fn line_of(
 {
     let issued = trace.into_issued()?;
     let verdict = check(alloc, opening, &issued, records)?;
-    told(alloc, complete, layout, &issued, records, verdict)
+    report_on_verdict(alloc, complete, layout, &issued, records, verdict)
 }
 
 // The report on records that have this verdict.
-fn told(
+fn report_on_verdict(
     alloc: Global,
     complete: bool,
     layout: Layout,
@@ -191,14 +191,14 @@ fn told(
         (issued_by issued.now) records.now verdict report.all_done report.text.items) }
 {
     if complete {
-        told_if_complete(alloc, layout, issued, records, verdict)
+        report_if_complete(alloc, layout, issued, records, verdict)
     } else {
-        verdict_told(alloc, layout, verdict)
+        verdict_report(alloc, layout, verdict)
     }
 }
 
 // The report on records that have this verdict, if each operation is to have one.
-fn told_if_complete(
+fn report_if_complete(
     alloc: Global,
     layout: Layout,
     issued: &[Vec<Op>],
@@ -209,13 +209,13 @@ fn told_if_complete(
         records.now verdict report.all_done report.text.items) }
 {
     match verdict {
-        Verdict::Legal => all_told(alloc, layout, issued, records),
-        _ => verdict_told(alloc, layout, verdict),
+        Verdict::Legal => report_on_lacks(alloc, layout, issued, records),
+        _ => verdict_report(alloc, layout, verdict),
     }
 }
 
 // The report on legal records of which each operation is to have one.
-fn all_told(
+fn report_on_lacks(
     alloc: Global,
     layout: Layout,
     issued: &[Vec<Op>],
@@ -225,7 +225,7 @@ fn all_told(
         records.now report.all_done report.text.items) }
 {
     match first_lack(issued, records) {
-        None => verdict_told(alloc, layout, Verdict::Legal),
+        None => verdict_report(alloc, layout, Verdict::Legal),
         Some(core) => {
             let place = count_of_core(core, records);
             Ok(Report {
@@ -237,7 +237,7 @@ fn all_told(
 }
 
 // The report of a verdict.
-fn verdict_told(alloc: Global, layout: Layout, verdict: Verdict) -> Result<Report, AllocError>
+fn verdict_report(alloc: Global, layout: Layout, verdict: Verdict) -> Result<Report, AllocError>
     ensures { IfOk result (λ report. Tells layout verdict report.all_done report.text.items) }
 {
     Ok(Report {

@@ -8,7 +8,7 @@ ghost use Rattle.report.specs.Ends.{HasNoEnds, IsEndsReport};
 use crate::every_text::every_text;
 use crate::litmus::test_in;
 use crate::outputs::{layout_of, put_out};
-use crate::sources::text_of;
+use crate::sources::read_text;
 use byte_streams::{Sink, Source};
 use run_options::EndsOptions;
 use run_results::{Done, RunError};
@@ -45,7 +45,7 @@ pub fn run_ends<S: Source, K: Sink>(
         (K.failures sink.old) (K.failures sink.new) }
     ensures nothing { IfErr result (λ e. e ≢ RunError.Write → sink.new ≡ sink.old) }
 {
-    let bytes = text_of(alloc, source)?;
+    let bytes = read_text(alloc, source)?;
     let text = list_of(alloc, &bytes, options)?;
     put_out(sink, &text, Done { all_done: true })
 }

@@ -19,7 +19,7 @@ use crate::checks::verdict_on;
 use crate::litmus::{are_all_done, test_in};
 use crate::openings::opening_of;
 use crate::outputs::{Report, layout_of};
-use crate::reports::told_by_policy;
+use crate::reports::report_by_policy;
 use crate::texts::trace_of;
 use byte_streams::{DeviceError, Source};
 use interleaving_core::Config;
@@ -142,7 +142,7 @@ fn report_of(alloc: Global, trace: &Trace, options: &TraceOptions) -> Result<Rep
         return Err(RunError::BadConfig);
     };
     match driver_of(&options.run) {
-        Driver::ByPolicy(policy) => match told_by_policy(alloc, trace, config, policy, options) {
+        Driver::ByPolicy(policy) => match report_by_policy(alloc, trace, config, policy, options) {
             Ok(report) => Ok(report),
             Err(AllocError) => Err(RunError::NoMemory),
         },

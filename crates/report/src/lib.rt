@@ -12,6 +12,7 @@ mod litmus;
 mod one_run;
 mod openings;
 mod outputs;
+mod progress;
 mod reports;
 mod sources;
 mod stream_parts;

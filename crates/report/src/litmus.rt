@@ -15,7 +15,7 @@ ghost use Rattle.worker_driver.specs.Outcomes.{HasOutcome};
 ghost use Rattle.worker_driver.specs.Runs.{AreFrom};
 
 use crate::outputs::{Report, layout_of, put_out};
-use crate::sources::text_of;
+use crate::sources::read_text;
 use byte_streams::{Sink, Source};
 use interleaving_core::Config;
 use litmus_reader::{Kind, LitmusError, Test, read};
@@ -63,7 +63,7 @@ pub fn run_litmus<R: Threads + Clock + Sync, S: Source, K: Sink>(
         (K.failures sink.old) (K.failures sink.new) }
     ensures nothing { IfErr result (λ e. e ≢ RunError.Write → sink.new ≡ sink.old) }
 {
-    let bytes = text_of(alloc, source)?;
+    let bytes = read_text(alloc, source)?;
     let report = report_of(rt, alloc, &bytes, options)?;
     let done = Done {
         all_done: report.all_done,

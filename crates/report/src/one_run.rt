@@ -184,7 +184,7 @@ fn whole_report<M: Finished + Drop>(
 }
 
 /// The text that tells a run: its report, with what its counter has behind it, or its records alone.
-pub(crate) fn text_of<M: Finished + Drop>(
+pub(crate) fn run_text<M: Finished + Drop>(
     alloc: Global,
     layout: Layout,
     trace: &Trace,

@@ -16,7 +16,7 @@ ghost use Rattle.report.specs.Reports.{is_counted};
 ghost use Rattle.trace_reader.specs.Steps.{trace_cores, trace_ops};
 ghost use Rattle.report.specs.Runs.{is_all_done, seen_by};
 
-use crate::one_run::{Ran, run_by_policy, run_by_threads, text_of};
+use crate::one_run::{Ran, run_by_policy, run_by_threads, run_text};
 use crate::outputs::{Report, layout_of, put_out};
 use crate::texts::trace_of;
 use byte_streams::{Sink, Source};
@@ -92,14 +92,14 @@ fn report_of<R: Threads + Clock + Sync>(
     let Some(config) = config_of(&options.run.machine, trace.cores()) else {
         return Err(RunError::BadConfig);
     };
-    match told(rt, alloc, trace, config, options) {
+    match run_and_report(rt, alloc, trace, config, options) {
         Ok(report) => Ok(report),
         Err(AllocError) => Err(RunError::NoMemory),
     }
 }
 
 // A run of the trace on this machine, as it is told.
-fn told<R: Threads + Clock + Sync>(
+fn run_and_report<R: Threads + Clock + Sync>(
     rt: &R,
     alloc: Global,
     trace: &Trace,
@@ -112,13 +112,13 @@ fn told<R: Threads + Clock + Sync>(
         TellsTraceRun options.now trace.now report.all_done report.text.items) }
 {
     match driver_of(&options.run) {
-        Driver::ByPolicy(policy) => told_by_policy(alloc, trace, config, policy, options),
-        Driver::ByThreads(fair) => told_by_threads(rt, alloc, trace, config, fair, options),
+        Driver::ByPolicy(policy) => report_by_policy(alloc, trace, config, policy, options),
+        Driver::ByThreads(fair) => report_by_threads(rt, alloc, trace, config, fair, options),
     }
 }
 
 /// A run of the trace by a policy, as it is told, with what it did in numbers if that is asked for.
-pub(crate) fn told_by_policy(
+pub(crate) fn report_by_policy(
     alloc: Global,
     trace: &Trace,
     config: Config,
@@ -142,7 +142,7 @@ pub(crate) fn told_by_policy(
 }
 
 // A run of the trace by threads, as it is told, with fair turns of banks or not.
-fn told_by_threads<R: Threads + Clock + Sync>(
+fn report_by_threads<R: Threads + Clock + Sync>(
     rt: &R,
     alloc: Global,
     trace: &Trace,
@@ -176,7 +176,7 @@ fn report_on<M: Finished + Drop>(
         report.all_done report.text.items) }
 {
     let layout = layout_of(options.json);
-    let text = text_of(alloc, layout, trace, ran, options.records, counter)?;
+    let text = run_text(alloc, layout, trace, ran, options.records, counter)?;
     Ok(Report {
         text,
         all_done: is_all_done(ran.end),

@@ -9,7 +9,7 @@ use run_results::RunError;
 use std::alloc::Global;
 
 /// All the bytes that the source has, if they are few enough for a litmus text.
-pub(crate) fn text_of<S: Source>(alloc: Global, source: &mut S) -> Result<Vec<u8>, RunError>
+pub(crate) fn read_text<S: Source>(alloc: Global, source: &mut S) -> Result<Vec<u8>, RunError>
     ensures all { IfOk result (λ bytes. ReadsAll (S.remaining source.old) bytes.items) }
     ensures none_failed { OnOk result (S.failures source.new ≡ S.failures source.old) }
     ensures none { IfErr result (HasNoText (S.remaining source.old)

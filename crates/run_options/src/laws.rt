@@ -13,8 +13,9 @@ ghost use Rattle.run_options.specs.declared.options.TheConstants.StreamOptions.{
 /// A machine has a lease of 10, the time 0, one bank, private caches of 64 sets of 4 lines, a bank of 256 sets of 8
 /// lines, lines of one word, 4,096 messages in flight and no private writes. A run is by rounds, at most 100,000 of
 /// them, with one worker. A litmus test has one run. A list of ends keeps at most 4,194,304 states and has no
-/// orders. A trace has a report without counts; one that is read as the run goes has a machine of 64 cores, and its
-/// report has the words. A check takes records that lack some operations. All write lines.
+/// orders. A trace has a report without counts; one that is read as the run goes has a machine of 64 cores, no lines
+/// that tell how far it is, and a report with the words. A check takes records that lack some operations. All write
+/// lines.
 pub fn defaults_are_these()
     ensures machine { machine_default ≡ record {
       lease = 10;
@@ -49,6 +50,7 @@ pub fn defaults_are_these()
       words = true;
       json = false;
       cores = 64;
+      progress = None;
       run = run_default;
     } }
     ensures check { check_default ≡ record { complete = false; json = false } }

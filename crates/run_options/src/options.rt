@@ -165,6 +165,9 @@ pub struct StreamOptions {
     pub json: bool,
     /// How many cores the machine has, as they aren't counted in the trace before the run. A machine takes 1 to 64.
     pub cores: u64,
+    /// After how many million completed operations each a line tells how far the run is, 1 or more. None: there are no
+    /// lines. Zero leaves each line out, too.
+    pub progress: Option<u64>,
     pub run: RunOptions,
 }
 
@@ -175,6 +178,7 @@ impl StreamOptions {
         words: true,
         json: false,
         cores: 64,
+        progress: None,
         run: RunOptions::DEFAULT,
     };
 }

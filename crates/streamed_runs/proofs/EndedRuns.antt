@@ -1,5 +1,6 @@
 -- How a run begins, how it stands where no more is known, and how it has ended.
-use Rattle.std.proofs.Common.{◌≡◌, ◌≢◌, ℕ, suc, ◌-◌, ◌<◌, ◌≤◌, Bool, true, false, cond, nat_lt, List, [], ◌∷◌, ◌++◌, length}
+use Rattle.std.proofs.Common.{◌≡◌, ◌≢◌, ℕ, suc, ◌-◌, ◌<◌, ◌≤◌, Bool, true, false, cond, nat_lt, List, [], ◌∷◌, ◌++◌}
+use Rattle.std.proofs.Common.{length}
 use Rattle.std.proofs.Common.{None, inl, inr, refl, sym, ap, ◌∙◌, subst, arith, append-nil, replicate}
 use Rattle.std.proofs.lemmas.Bool.{eq-eqb}
 use Rattle.std.proofs.lemmas.Bool.Decides.{nat_tests}
@@ -33,7 +34,8 @@ use Rattle.streamed_runs.proofs.JoinedLanes.{nothing_behind, nothing_follows, no
 module _ (begins : (keeps : Bool) (policy : Policy) (m : Machine) (behind : List (List Step)) →
     ((core : ℕ) → open_op m core ≡ None) → length behind ≡ m.config.cores →
     let lists = joined (replicate m.config.cores []) behind in
-    EndsBy keeps step_acts policy 0 m lists [] m lists (end_before behind AllDone)) (config : Config) (idle : (core : ℕ) → open_op (at_start config empty) core ≡ None)
+    EndsBy keeps step_acts policy 0 m lists [] m lists (end_before behind AllDone)) (config : Config) (idle : (core
+    : ℕ) → open_op (at_start config empty) core ≡ None)
     (good : is_good config ≡ true) (policy : Policy) (limit : ℕ)
     (ahead : AheadState) (queues : ahead.queues ≡ replicate config.cores []) (met : ahead.met ≡ 0)
     (words : ahead.words ≡ empty) where
@@ -115,7 +117,8 @@ run_so_far taken s going =
     let nothing = replicate cores [] in (
       going.events,
       joined s.ahead.queues nothing,
-      subst (λ (end : End). EndsBy true step_acts s.pace.policy (s.limit - s.left) (at_start s.machine.config empty) lanes
+      subst (λ (end : End). EndsBy true step_acts s.pace.policy (s.limit - s.left) (at_start s.machine.config empty)
+          lanes
           going.events s.machine (joined s.ahead.queues nothing) end) (ends_here cores s.end)
           (subst (λ (all : List (List Step)). EndsBy true step_acts s.pace.policy (s.limit - s.left)
           (at_start s.machine.config empty) all going.events s.machine (joined s.ahead.queues nothing)
@@ -144,7 +147,8 @@ module _ (taken more : List (ℕ × (ℕ × Step))) (s : StreamState) (going : I
         leads = going.leads;
         ended = subst (λ (n : ℕ). EndsBy true step_acts s.pace.policy n (at_start s.machine.config empty)
             (lanes_for cores (unnumbered (taken ++ more))) going.events s.machine (joined s.ahead.queues rest) end) all
-            (subst (λ (e : End). EndsBy true step_acts s.pace.policy (s.limit - s.left) (at_start s.machine.config empty)
+            (subst (λ (e : End). EndsBy true step_acts s.pace.policy (s.limit - s.left) (at_start s.machine.config
+            empty)
             (lanes_for cores (unnumbered (taken ++ more))) going.events s.machine (joined s.ahead.queues rest) e)
             (sym is)
             (subst (λ (lanes : List (List Step)). EndsBy true step_acts s.pace.policy (s.limit - s.left)
@@ -195,7 +199,10 @@ rest_end : (n : ℕ) (more : List (ℕ × (ℕ × Step))) (end : End) → cores_
 rest_end n [] AllDone few =
     sym (ap (λ (lanes : List (List Step)). end_before lanes AllDone) (no_steps n) ∙ ends_here n AllDone)
 rest_end n (one ∷ more) AllDone few =
-    ap (λ (b : Bool). cond b TurnsUsed AllDone) (some_more (length more)) ∙ sym (step_left n one more (omega (arith, few)))
+    ap (λ (b : Bool). cond b TurnsUsed AllDone) (some_more (length more)) ∙ sym (step_left n one more (omega (
+      arith,
+      few,
+    )))
 rest_end n more Stalled few = refl
 rest_end n more TurnsUsed few = refl
 rest_end n more Exhausted few = refl

@@ -34,8 +34,8 @@ use Rattle.streamed_runs.proofs.JoinedLanes.{ends_later, ends_now, lane_joined, 
 use Rattle.streamed_runs.proofs.JoinedLanes.{length_joined, no_steps, nothing_in, queues_joined}
 use Rattle.streamed_runs.proofs.MadePieces.{some_core}
 
--- what is cited of the laws of schedules, `lists_are_filled_between_turns` (joins, fills), `runs_go_on` (begins, further)
--- and `pieces_go_by_turns` (turns, sum, used)
+-- what is cited of the laws of schedules, `lists_are_filled_between_turns` (joins, fills), `runs_go_on` (begins,
+-- further) and `pieces_go_by_turns` (turns, sum, used)
 pub record Laws : Type 0 where
   pub joins : (lists moved behind : List (List Step)) →
       joined (joined lists moved) behind ≡ joined lists (joined moved behind)
@@ -83,11 +83,13 @@ all_both m (event ∷ events) more = all_both (transition m event).1 events more
 abbrev Stands : Config → Policy → ℕ → Bool → List (ℕ × Step) → List Event → Machine → List (List Step) → End → Type 0
 Stands config policy turns at_end told events machine queues end =
     (more : List (List Step)) → length more ≡ config.cores → MayFollow at_end more →
-    EndsBy true step_acts policy turns (at_start config empty) (joined (lanes_for config.cores told) more) events machine
+    EndsBy true step_acts policy turns (at_start config empty) (joined (lanes_for config.cores told) more) events
+    machine
     (joined queues more) (end_before more end)
 
 -- what was met and named in all steps that were read, kept in queues or not
-module _ (keeps : Bool) (taken more : List (ℕ × (ℕ × Step))) (old new : AheadState) (filled : HasTaken keeps old new more)
+module _ (keeps : Bool) (taken more : List (ℕ × (ℕ × Step))) (old new : AheadState) (filled : HasTaken keeps old new
+    more)
   where
     pub met_all : old.met ≡ cores_of (unnumbered taken) → new.met ≡ cores_of (unnumbered (taken ++ more))
     met_all met = let sum = cores-append taken more in let next = filled.met in omega (arith, sum, met, next)
@@ -121,7 +123,8 @@ stays_over taken s going done =
     })
 
 -- steps were read ahead of a run that isn't over
-module _ (laws : Laws) (taken more : List (ℕ × (ℕ × Step))) (s : StreamState) (going : IsGoing taken s) (on : 0 < s.left)
+module _ (laws : Laws) (taken more : List (ℕ × (ℕ × Step))) (s : StreamState) (going : IsGoing taken s) (on : 0 <
+    s.left)
     (one_each : length s.ahead.queues ≡ s.machine.config.cores) (ahead : AheadState)
     (filled : HasTaken true s.ahead ahead more) (at_end : Bool)
     (nothing : s.at_end ≡ true → (more ≡ []) × (at_end ≡ true)) where
@@ -203,7 +206,8 @@ module _ (laws : Laws) (taken more : List (ℕ × (ℕ × Step))) (s : StreamSta
   -- ---- all is done, and nothing more is to come
 
   module _ (whole : at_end ≡ true) (done : s.end ≡ AllDone) (none : (core : ℕ) → lane ahead.queues core ≡ []) where
-    last_stands : Stands s.machine.config s.pace.policy (s.limit - 0) at_end told going.events s.machine ahead.queues s.end
+    last_stands : Stands s.machine.config s.pace.policy (s.limit - 0) at_end told going.events s.machine ahead.queues
+        s.end
     last_stands later many follows =
         let nothing = subst (λ (b : Bool). MayFollow b later) whole follows in
         let now = ends_now later nothing in
@@ -306,7 +310,8 @@ module _ (laws : Laws) (taken more : List (ℕ × (ℕ × Step))) (s : StreamSta
 
     one_in_each : length one_behind ≡ cores
     one_in_each =
-        let rest = length-replicate {A = List Step} (cores - 1) [] in let some = some_core s.machine.config going.good in
+        let rest = length-replicate {A = List Step} (cores - 1) [] in let some = some_core s.machine.config going.good
+        in
         omega (arith, rest, some)
 
     goes_behind : piece.begun ≡ turns → gone piece.begun s.pace ≡ paced s.pace.policy (s.limit - (s.left - turns))
@@ -338,7 +343,8 @@ module _ (laws : Laws) (taken more : List (ℕ × (ℕ × Step))) (s : StreamSta
     goes b is Exhausted done = inl refl
     goes b is NoMemory done = inl refl
 
-    left_stands : Stands s.machine.config s.pace.policy (s.limit - left) at_end told (going.events ++ piece.events) after
+    left_stands : Stands s.machine.config s.pace.policy (s.limit - left) at_end told (going.events ++ piece.events)
+        after
         queues end
     left_stands later many follows = elim (counted at_end end) [
       | inl rest ↦ let under = going.within in
@@ -387,7 +393,8 @@ module _ (laws : Laws) (taken more : List (ℕ × (ℕ × Step))) (s : StreamSta
         leads = piece.leads ∙ ap (λ (m : Machine). after_all m piece.events) going.leads
             ∙ sym (all_both (at_start s.machine.config empty) going.events piece.events)
             ∙ ap (λ (c : Config). after_all (at_start c empty) (going.events ++ piece.events)) (sym piece.config);
-        ended = subst (λ (c : Config). Stands c s.pace.policy (s.limit - left) at_end told (going.events ++ piece.events)
+        ended = subst (λ (c : Config). Stands c s.pace.policy (s.limit - left) at_end told (going.events ++
+            piece.events)
             after queues end) (sym piece.config) left_stands;
         within = let under = going.within in elim (counted at_end end) [
           | inl rest ↦ omega (arith, rest, under)

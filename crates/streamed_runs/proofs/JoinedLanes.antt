@@ -56,7 +56,8 @@ earlier_lane [] steps core below = absurd (omega (arith, below))
 earlier_lane (first ∷ lanes) steps zero below = refl
 earlier_lane (first ∷ lanes) steps (suc core) below = earlier_lane lanes steps core (omega (arith, below))
 
-pub lane_of : (n : ℕ) (steps : List (ℕ × Step)) (core : ℕ) → core < n → lane (lanes_for n steps) core ≡ steps_of core steps
+pub lane_of : (n : ℕ) (steps : List (ℕ × Step)) (core : ℕ) → core < n → lane (lanes_for n steps) core ≡ steps_of core
+    steps
 lane_of zero steps core below = absurd (omega (arith, below))
 lane_of (suc n) steps core below = elim (cases_lt core n) [
   | inl less ↦ let count = lanes_count n steps in

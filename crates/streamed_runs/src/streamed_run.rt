@@ -63,7 +63,12 @@ impl Model for StreamedRun {
 
     ghost Value = { StreamState };
 
-    ghost coded = { Prim.hlevel (codes, map.code {R = nat_cmp} coded_ℕ coded_ℕ, map.code {R = nat_cmp} coded_ℕ (coded_list coded_ℕ)) };
+    ghost coded = { Prim.hlevel (
+      codes,
+      map.code {R = nat_cmp} coded_ℕ coded_ℕ,
+      map.code {R = nat_cmp} coded_ℕ
+          (coded_list coded_ℕ),
+    ) };
 
     ghost view = { λ a. record {
       machine = a.system;
@@ -180,8 +185,8 @@ impl StreamedRun {
     /// the run goes on; if not, nothing but the rest of the text is left (`finish`), and another call does nothing. The
     /// source is to be the one of all earlier calls.
     ///
-    /// A fault of the text is an error as soon as it is read, and so is a step of a core that the machine hasn't. The run
-    /// can't go on after an error.
+    /// A fault of the text is an error as soon as it is read, and so is a step of a core that the machine hasn't. The
+    /// run can't go on after an error.
     pub fn go_on<S: Source>(&mut self, source: &mut S) -> Result<bool, AheadError>
         ensures went { OnOk result ((taken : List (ℕ × (ℕ × Step))) → IsGoing taken self.old →
             (more : List (ℕ × (ℕ × Step)))
@@ -319,8 +324,8 @@ impl StreamedRun {
         self.system.completed() as u128 + u128::from(open_operations(&self.system))
     }
 
-    /// The words that the steps name that were read, by rising address, with their values, where they are; none if words
-    /// weren't asked for.
+    /// The words that the steps name that were read, by rising address, with their values, where they are; none if
+    /// words weren't asked for.
     pub fn values(&self) -> Result<Vec<(WordAddr, u64)>, AllocError>
         ensures { IfOk result (λ values.
             values.items ≡ values_in self.now.machine self.now.ahead.words) }

@@ -1,11 +1,9 @@
 -- What the program answers.
 use Rattle.std.specs.Prelude.{◌≡◌, ◌<◌, ◌⊎◌, ℕ, Bool, List, [], Option, Some, None, Result, Ok, Err, codes}
-use Rattle.std.specs.Prelude.{string_bytes}
+use Rattle.std.specs.Prelude.{IfErr, IfOk, string_bytes}
 use Rattle.std.specs.Borrow.{Bor}
 use Rattle.std.specs.FinMap.{FinMap, empty}
 use Rattle.std.specs.Ordering.{nat_cmp}
-use Rattle.byte_streams.specs.Device.{Grows}
-use Rattle.byte_streams.specs.Whole.{GrowsByFront}
 use Rattle.command_line.specs.declared.words.Job.{Job}
 use Rattle.command_line.specs.declared.words.Job.TheVariants.{Litmus as LitmusJob, Ends as EndsJob}
 use Rattle.command_line.specs.declared.words.Job.TheVariants.{Trace as TraceJob, Stream as StreamJob, Check as CheckJob}
@@ -14,8 +12,10 @@ use Rattle.command_line.specs.declared.words.WordsError.TheVariants.{Refused as 
 use Rattle.command_line.specs.declared.words.WordsError.TheVariants.{NoMemory as NoMemoryForWords}
 use Rattle.byte_streams.specs.declared.device.DeviceError.{DeviceError}
 use Rattle.physiological_order.specs.Order.{Memory, flat}
+use Rattle.physiological_order.specs.declared.operation.Record.{Record}
 use Rattle.report.specs.Bytes.{OfBytes}
 use Rattle.report.specs.Answers.{FailuresAreCounted, IsCutOff, IsReported}
+pub use Rattle.report.specs.Answers.{TextGoesOut}
 use Rattle.report.specs.Ends.{HasNoEnds, IsEndsReport}
 use Rattle.report.specs.Layouts.{layout_of}
 use Rattle.report.specs.Litmus.{HasNoReport, IsLitmusReport}
@@ -30,15 +30,12 @@ use Rattle.run_results.specs.declared.results.RunError.{RunError}
 use Rattle.run_results.specs.declared.results.RunError.TheVariants.{BadConfig, Read, Write}
 use Rattle.programs.specs.declared.steps.Step.{Step}
 use Rattle.report.specs.Openings.{HasNoOpening, IsOpened}
+use Rattle.report.specs.Progress.{IsProgress, IsToldReport}
 use Rattle.report.specs.Refusals.{IsRead}
 use Rattle.report.specs.Reports.{HasNoTraceReport, IsTraceReport}
 use Rattle.report.specs.Streams.{HasNoStream, IsBegun, IsStreamReport, IsStreamText}
 use Rattle.report.specs.Verdicts.{HasNoVerdict, IsCheckReport, ReadsCounted, WritesCounted}
 use Rattle.worker_driver.specs.SetUp.{FollowsPolicy}
-
--- what went out is a beginning of the text, and all of it if no write failed
-abbrev pub TextGoesOut : Option (List ℕ) → Option (List ℕ) → ℕ → ℕ → List ℕ → Type 0
-TextGoesOut old new failed failed' text = GrowsByFront old new text × (failed' ≡ failed → Grows old new text)
 
 -- 3 if the command line is refused, 1 if an allocation failed
 abbrev pub words_status : WordsError → ℕ
@@ -119,6 +116,22 @@ RunsStream d options known old new (Err BadConfig) = HasNoStream options known B
 RunsStream d options known old new (Err error) =
     HasNoStream options known error × IsReported (IsBegun options known) (d.contents old) (d.contents new)
 
+-- What was told of the run on standard error meanwhile: nothing, if that isn't asked for or the machine can't be had. If
+-- there is a report, it is of the same run.
+abbrev pub TellsRun : {F K E : Type 0} → Devices F K → Devices F E → StreamOptions → E → E → Option (List ℕ) → K → K →
+    Result Done RunError → Type 0
+TellsRun d e options errors errors' known old new came =
+    ((records : List Record) × IsProgress options known records (e.contents errors) (e.contents errors')
+    (e.unwritten errors) (e.unwritten errors'))
+    × IfOk came (λ done. IsReported (IsToldReport options known done.all_done (e.contents errors) (e.contents errors')
+    (e.unwritten errors) (e.unwritten errors')) (d.contents old) (d.contents new))
+    × (options.progress ≡ None → errors' ≡ errors) × (came ≡ Err BadConfig → errors' ≡ errors)
+
+abbrev pub RunsAndTells : {F K E : Type 0} → Devices F K → Devices F E → StreamOptions → E → E → Option (List ℕ) →
+    K → K → Result Done RunError → Type 0
+RunsAndTells d e options errors errors' known old new came =
+    RunsStream d options known old new came × TellsRun d e options errors errors' known old new came
+
 -- the job was done on a file, which it left as another: failures are reported exactly as they were counted
 abbrev pub RunsOn : {F K : Type 0} → Devices F K → (Option (List ℕ) → K → K → Result Done RunError → Type 0) →
     (file left : F) → K → K → Result Done RunError → Type 0
@@ -186,17 +199,20 @@ abbrev pub CanBeDone : Job → Type 0
 CanBeDone (StreamJob options name) = FollowsPolicy options.run
 CanBeDone job = Unit {0}
 
--- the job was done on the files that have its names, given what opening each name may answer
-abbrev pub Does : {F K : Type 0} → Devices F K → (List ℕ → Result F DeviceError → Type 0) → Job → K → K →
-    Result Done RunError → Type 0
-Does {F} d opens (LitmusJob options name) old new came = (opened : Result F DeviceError) × opens name.now opened
-    × OnFile d (RunsLitmus d options) opened old new came
-Does {F} d opens (EndsJob options name) old new came = (opened : Result F DeviceError) × opens name.now opened
-    × OnFile d (ListsEndsOf d options) opened old new came
-Does {F} d opens (TraceJob options name) old new came = (opened : Result F DeviceError) × opens name.now opened
-    × OnFile d (RunsTrace d options) opened old new came
-Does {F} d opens (StreamJob options name) old new came = (opened : Result F DeviceError) × opens name.now opened
-    × OnFile d (RunsStream d options) opened old new came
-Does {F} d opens (CheckJob options opening trace records) old new came = (first : Option (Result F DeviceError))
-    × OpensNamed opens opening first × (opened opened' : Result F DeviceError)
+-- The job was done on the files that have its names, given what opening each name may answer. It told nothing on
+-- standard error meanwhile, but of a trace that is run as it is read, once its file was opened.
+abbrev pub Does : {F K E : Type 0} → Devices F K → Devices F E → (List ℕ → Result F DeviceError → Type 0) → Job →
+    K → K → E → E → Result Done RunError → Type 0
+Does {F} d e opens (LitmusJob options name) old new errors errors' came = (opened : Result F DeviceError)
+    × opens name.now opened × OnFile d (RunsLitmus d options) opened old new came × (errors' ≡ errors)
+Does {F} d e opens (EndsJob options name) old new errors errors' came = (opened : Result F DeviceError)
+    × opens name.now opened × OnFile d (ListsEndsOf d options) opened old new came × (errors' ≡ errors)
+Does {F} d e opens (TraceJob options name) old new errors errors' came = (opened : Result F DeviceError)
+    × opens name.now opened × OnFile d (RunsTrace d options) opened old new came × (errors' ≡ errors)
+Does {F} d e opens (StreamJob options name) old new errors errors' came = (opened : Result F DeviceError)
+    × opens name.now opened × OnFile d (RunsAndTells d e options errors errors') opened old new came
+    × IfErr opened (λ error. errors' ≡ errors)
+Does {F} d e opens (CheckJob options opening trace records) old new errors errors' came =
+    (first : Option (Result F DeviceError)) × OpensNamed opens opening first × (opened opened' : Result F DeviceError)
     × opens trace.now opened × opens records.now opened' × OnFiles d options first opened opened' old new came
+    × (errors' ≡ errors)

@@ -20,7 +20,8 @@ use std::rt::Clock;
 use std::thread::Threads;
 
 /// Does what the words ask for, and answers the exit status. A report goes to `out`; why there is none goes to
-/// `errors`, in one line, or in the lines of a command line's refusal. Nothing reports errors of `errors` itself.
+/// `errors`, in one line, or in the lines of a command line's refusal. Before it come lines that tell how far a run is,
+/// if they are asked for. Nothing reports errors of `errors` itself.
 pub fn answer<R: Threads + Clock + Sync, F: Files, K: Sink, E: Sink>(
     rt: &R,
     alloc: Global,
@@ -33,18 +34,19 @@ pub fn answer<R: Threads + Clock + Sync, F: Files, K: Sink, E: Sink>(
         × (result ≡ words_status e) × (out.new ≡ out.old)
         × TextGoesOut (E.contents errors.old) (E.contents errors.new)
         (E.failures errors.old) (E.failures errors.new) (words_text e))
-        ⊎ ((job : Job) × (came : Result Done RunError)
+        ⊎ ((job : Job) × (came : Result Done RunError) × (told : E)
         × IsAskedBy (map (λ w. w.now) words.entry.now) job
         × (result ≡ status_of came)
-        × Does (devices F.File.remaining F.File.failures K.contents K.failures) (F.opens files.now)
-        job out.old out.new came
-        × TextGoesOut (E.contents errors.old) (E.contents errors.new)
-        (E.failures errors.old) (E.failures errors.new) (came_text came)) }
+        × Does (devices F.File.remaining F.File.failures K.contents K.failures)
+        (devices F.File.remaining F.File.failures E.contents E.failures) (F.opens files.now)
+        job out.old out.new errors.old told came
+        × TextGoesOut (E.contents told) (E.contents errors.new)
+        (E.failures told) (E.failures errors.new) (came_text came)) }
 {
     streams_follow_policies();
     match read_words(alloc, words) {
         Ok(job) => {
-            let came = run_job(rt, alloc, files, &job, out);
+            let came = run_job(rt, alloc, files, &job, out, errors);
             tell_result(errors, &came);
             exit_status(&came)
         }

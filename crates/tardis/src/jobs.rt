@@ -1,8 +1,9 @@
 //! The jobs that words ask for, each done on its files.
 
+ghost use Rattle.std.specs.Prelude.{◌≡◌, IfErr};
 ghost use Rattle.physiological_order.specs.Order.{flat};
 ghost use Rattle.tardis.specs.Answers.{CanBeDone, Checks, ChecksOver, Does, ListsEndsOf, OnFile, OnFiles, OnOpening};
-ghost use Rattle.tardis.specs.Answers.{OpensNamed, RunsLitmus, RunsOn, RunsStream, RunsTrace, devices};
+ghost use Rattle.tardis.specs.Answers.{OpensNamed, RunsAndTells, RunsLitmus, RunsOn, RunsTrace, devices};
 ghost use Rattle.worker_driver.specs.SetUp.{FollowsPolicy};
 
 use crate::files::Files;
@@ -16,23 +17,25 @@ use std::alloc::Global;
 use std::rt::Clock;
 use std::thread::Threads;
 
-/// Does a job that can be done, and opens all its files first.
-pub(crate) fn run_job<R: Threads + Clock + Sync, F: Files, K: Sink>(
+/// Does a job that can be done, and opens all its files first. Lines that tell how far a run is go to `errors`.
+pub(crate) fn run_job<R: Threads + Clock + Sync, F: Files, K: Sink, E: Sink>(
     rt: &R,
     alloc: Global,
     files: &F,
     job: &Job<'_>,
     out: &mut K,
+    errors: &mut E,
 ) -> Result<Done, RunError>
     requires { CanBeDone job.now }
     ensures { Does (devices F.File.remaining F.File.failures K.contents K.failures)
-        (F.opens files.now) job.now out.old out.new result }
+        (devices F.File.remaining F.File.failures E.contents E.failures)
+        (F.opens files.now) job.now out.old out.new errors.old errors.new result }
 {
     match job {
         Job::Litmus(options, name) => litmus_of(rt, alloc, files.open(name), options, out),
         Job::Ends(options, name) => ends_of(alloc, files.open(name), options, out),
         Job::Trace(options, name) => trace_of(rt, alloc, files.open(name), options, out),
-        Job::Stream(options, name) => stream_of(alloc, files.open(name), options, out),
+        Job::Stream(options, name) => stream_of(alloc, files.open(name), options, out, errors),
         Job::Check(options, opening, trace, records) => {
             let opening = open_named(files, *opening);
             let trace = files.open(trace);
@@ -140,36 +143,41 @@ fn trace_on<R: Threads + Clock + Sync, S: Source + Drop, K: Sink>(
 }
 
 // Runs the trace of a file that was opened while it reads it.
-fn stream_of<S: Source + Drop, K: Sink>(
+fn stream_of<S: Source + Drop, K: Sink, E: Sink>(
     alloc: Global,
     opened: Result<S, DeviceError>,
     options: &StreamOptions,
     out: &mut K,
+    errors: &mut E,
 ) -> Result<Done, RunError>
     requires { FollowsPolicy options.now.run }
-    ensures { OnFile (devices S.remaining S.failures K.contents K.failures)
-        (RunsStream (devices S.remaining S.failures K.contents K.failures) options.now) opened
-        out.old out.new result }
+    ensures run { OnFile (devices S.remaining S.failures K.contents K.failures)
+        (RunsAndTells (devices S.remaining S.failures K.contents K.failures)
+        (devices S.remaining S.failures E.contents E.failures) options.now errors.old errors.new)
+        opened out.old out.new result }
+    ensures quiet { IfErr opened (λ error. errors.new ≡ errors.old) }
 {
     match opened {
-        Ok(file) => stream_on(alloc, file, options, out),
+        Ok(file) => stream_on(alloc, file, options, out, errors),
         Err(DeviceError) => Err(RunError::Read),
     }
 }
 
-fn stream_on<S: Source + Drop, K: Sink>(
+fn stream_on<S: Source + Drop, K: Sink, E: Sink>(
     alloc: Global,
     file: S,
     options: &StreamOptions,
     out: &mut K,
+    errors: &mut E,
 ) -> Result<Done, RunError>
     requires { FollowsPolicy options.now.run }
     ensures { (left : S) × RunsOn (devices S.remaining S.failures K.contents K.failures)
-        (RunsStream (devices S.remaining S.failures K.contents K.failures) options.now) file left
-        out.old out.new result }
+        (RunsAndTells (devices S.remaining S.failures K.contents K.failures)
+        (devices S.remaining S.failures E.contents E.failures) options.now errors.old errors.new)
+        file left out.old out.new result }
 {
     let mut source = file;
-    run_stream(alloc, &mut source, out, options)
+    run_stream(alloc, &mut source, out, errors, options)
 }
 
 // The file that has a name, if there is a name.

@@ -342,8 +342,8 @@ pub extern "C" fn tardis_c_system_value(
     0
 }
 
-/// The numbers of the lines that a core has copies of, in rising order: as many as there is room for, and how many there
-/// are. 18 if there is no such core, else 3 if an allocation failed; nothing is written then.
+/// The numbers of the lines that a core has copies of, in rising order: as many as there is room for, and how many
+/// there are. 18 if there is no such core, else 3 if an allocation failed; nothing is written then.
 #[unsafe(no_mangle)]
 pub extern "C" fn tardis_c_system_copies(
     alloc: Global,

@@ -25,7 +25,7 @@ fn opening_fields(line: &[u8]) -> Result<(WordAddr, u64), Kind>
 }
 
 #[tactic(auto, unfolding(crate::specs::Reading::opening_line_at))]
-fn told(line: &[u8]) -> Result<Option<(WordAddr, u64)>, Kind>
+fn read_opening(line: &[u8]) -> Result<Option<(WordAddr, u64)>, Kind>
     ensures { result ≡ opening_line_at (fields_of line.now) }
 {
     if !has_field(line) {
@@ -47,5 +47,5 @@ pub fn opening_line(line: &[u8]) -> Result<Option<(WordAddr, u64)>, Kind>
         result ≡ Ok (Some read) }
     ensures fault { IfErr result (λ kind. OpeningCause kind (fields_of line.now)) }
 {
-    told(line)
+    read_opening(line)
 }

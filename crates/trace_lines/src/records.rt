@@ -72,7 +72,7 @@ fn record_fields(line: &[u8]) -> Result<Record, Kind>
 }
 
 #[tactic(auto, unfolding(crate::specs::Reading::record_line_at))]
-fn told(line: &[u8]) -> Result<Option<Record>, Kind>
+fn read_record(line: &[u8]) -> Result<Option<Record>, Kind>
     ensures { result ≡ record_line_at (fields_of line.now) }
 {
     if !has_field(line) {
@@ -94,5 +94,5 @@ pub fn record_line(line: &[u8]) -> Result<Option<Record>, Kind>
         result ≡ Ok (Some read) }
     ensures fault { IfErr result (λ kind. RecordCause kind (fields_of line.now)) }
 {
-    told(line)
+    read_record(line)
 }

@@ -100,7 +100,7 @@ fn trace_fields(form: Form, line: &[u8]) -> Result<(u32, Step), Kind>
 }
 
 #[tactic(auto, unfolding(crate::specs::Reading::trace_line_at))]
-fn told(form: Form, line: &[u8]) -> Result<Option<(u32, Step)>, Kind>
+fn read_step(form: Form, line: &[u8]) -> Result<Option<(u32, Step)>, Kind>
     ensures { result ≡ trace_line_at form (fields_of line.now) }
 {
     if !has_field(line) {
@@ -122,5 +122,5 @@ pub fn trace_line(form: Form, line: &[u8]) -> Result<Option<(u32, Step)>, Kind>
         result ≡ Ok (Some (core, step)) }
     ensures fault { IfErr result (λ kind. TraceCause form kind (fields_of line.now)) }
 {
-    told(form, line)
+    read_step(form, line)
 }

@@ -27,7 +27,8 @@ pub ok-pair : {A B : Type 0} (x y : A × B) → ◌≡◌ {A = Result (A × B) K
 ok-pair {A = A} {B = B} x y e =
     let same : x ≡ y = cc in (ap (λ (w : A × B). w.0) same, ap (λ (w : A × B). w.1) same)
 
-pub behind-ok : {X : Type 0} (xs : List X) (r : Result (List X) TraceError) (told : List X) → read_behind xs r ≡ Ok told →
+pub behind-ok : {X : Type 0} (xs : List X) (r : Result (List X) TraceError) (told : List X) → read_behind xs r ≡ Ok
+    told →
     (ys : List X) × (r ≡ Ok ys) × (xs ++ ys ≡ told)
 behind-ok xs (Ok ys) told e = (ys, refl, cc)
 behind-ok xs (Err k) told e = absurd cc

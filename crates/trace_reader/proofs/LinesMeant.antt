@@ -82,7 +82,8 @@ module _ {S X : Type 0} (says : S → List (List ℕ) → Result (S × Option X)
   only-from m (line ∷ lines) number state told fits t =
       let p = m.parts state (fields_of line) (worded lines) told t in
       line-said says number state p.0 line lines p.1 fits.1.0 (omega (arith, fits.0)) p.4
-      ∙ ap (read_behind (list_of_option p.1)) (only-from m lines (suc number) p.0 p.2 (omega (arith, fits.0), fits.1.1) p.5)
+      ∙ ap (read_behind (list_of_option p.1)) (only-from m lines (suc number) p.0 p.2 (omega (arith, fits.0), fits.1.1)
+      p.5)
       ∙ ap Ok p.3
 
   pub lines-only : Means → (first : S) (lines : List (List ℕ)) (told : List X) → HasFewShortLines lines →

@@ -34,7 +34,8 @@ module _ {S X : Type 0} (says : S → List (List ℕ) → Result (S × Option X)
   pub told-once : (bytes : List ℕ) (one other : List X) → HasFewShortLines (lines_of bytes) →
       Tells first (worded (lines_of bytes)) one → Tells first (worded (lines_of bytes)) other → one ≡ other
   told-once bytes one other fits s t =
-      same-told one other (lines_read (lines_of bytes)) (lines-only says Tells Cause m first (lines_of bytes) one fits s)
+      same-told one other (lines_read (lines_of bytes)) (lines-only says Tells Cause m first (lines_of bytes) one fits
+      s)
       (lines-only says Tells Cause m first (lines_of bytes) other fits t)
 
   module _ {V : Type 0} (Holds : List X → V → Type 0) where

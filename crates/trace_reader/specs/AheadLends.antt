@@ -10,4 +10,7 @@ use Rattle.trace_reader.specs.contracts.read_ahead.ReadAhead.{the_row}
 -- it has the queues that were left there, as many as before, and all else stays
 abbrev pub lends_queues : MutBor AheadState → MutBor (List (List Step)) → Fml
 lends_queues s r =
-    Lends the_row (Array queue.the_row 0) s r (λ w. record (s.now) { queues = refill (length s.now.queues) s.now.queues w })
+    Lends the_row (Array queue.the_row 0) s r (λ w. record (s.now) {
+      queues = refill (length s.now.queues) s.now.queues
+          w;
+    })

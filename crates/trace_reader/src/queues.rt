@@ -69,8 +69,8 @@ impl StepQueue {
         self.left == 0
     }
 
-    /// Puts a step behind those that are left, and adds the word that it names, if words are asked for. If an allocation
-    /// fails, nothing changes.
+    /// Puts a step behind those that are left, and adds the word that it names, if words are asked for. If an
+    /// allocation fails, nothing changes.
     pub(crate) fn push(
         &mut self,
         step: Step,

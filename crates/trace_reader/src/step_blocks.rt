@@ -69,8 +69,8 @@ impl Blocks {
         }
     }
 
-    // Goes on to the next block if no step is left in the first one: to the first of those between or, if there is none,
-    // to the last, whose place the emptied one takes.
+    // Goes on to the next block if no step is left in the first one: to the first of those between or, if there is
+    // none, to the last, whose place the emptied one takes.
     fn turn(&mut self)
         ensures same { waiting self.new ≡ waiting self.old }
         ensures turned { IsTurned self.new }

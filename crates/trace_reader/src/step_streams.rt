@@ -134,9 +134,9 @@ impl StepStream {
     /// is to be the one of all earlier calls.
     ///
     /// The lines and their faults are those of `read`, but there may be as many lines as their numbers allow: the line
-    /// with the number 18,446,744,073,709,551,615 is `TooLong`. What is to come stays as it is if there is an error: the
-    /// next call gives a line's fault again, and reads on if a call of the source failed (`Read`, with line 0). No call
-    /// allocates.
+    /// with the number 18,446,744,073,709,551,615 is `TooLong`. What is to come stays as it is if there is an error:
+    /// the next call gives a line's fault again, and reads on if a call of the source failed (`Read`, with line 0). No
+    /// call allocates.
     pub fn next<S: Source>(&mut self, source: &mut S) -> Result<Option<(u32, Step)>, TraceError>
         // The step is the first of those to come, with the number of the line that was taken last; all others stay.
         ensures told { IfOk result (λ told. Yields (coming self.old (S.remaining source.old))

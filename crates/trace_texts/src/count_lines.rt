@@ -319,9 +319,9 @@ fn put_end_counts(out: &mut Vec<u8>, layout: Layout, counts: &EventCounts) -> Re
 }
 
 /// What a run did, in numbers, behind its report: if there is a row each `every` operations, each row with the counts
-/// at that point, and then the counts at the end. They are the events, the deliveries that were held and those that were
-/// dropped, and what was counted of each core and each bank, with the messages by kind that were sent by it or to it
-/// (docs/COUNTS.md). If allocation fails, some of it may be in the text.
+/// at that point, and then the counts at the end. They are the events, the deliveries that were held and those that
+/// were dropped, and what was counted of each core and each bank, with the messages by kind that were sent by it or to
+/// it (docs/COUNTS.md). If allocation fails, some of it may be in the text.
 #[tactic(auto, unfolding(crate::specs::CountLines::event_counts_text))]
 pub fn put_event_counts(
     out: &mut Vec<u8>,

@@ -170,7 +170,7 @@ pub fn trace_text(
     let issued = trace.into_issued()?;
     let verdict = check(alloc, &Memory::new(alloc), &issued, records)?;
     let done = Kinds::of(records);
-    let mut text = told(alloc, layout, cores, run, verdict, &done, values)?;
+    let mut text = report_with(alloc, layout, cores, run, verdict, &done, values)?;
     put_closing(&mut text, layout)?;
     Ok(text)
 }
@@ -206,12 +206,12 @@ pub fn told_trace_text(
     ensures { IfOk result (λ text.
         text.items ≡ told_text layout cores run.now Verdict.Legal done.now values.now) }
 {
-    told(alloc, layout, cores, run, Verdict::Legal, done, values)
+    report_with(alloc, layout, cores, run, Verdict::Legal, done, values)
 }
 
 // The report without what closes it, with this verdict on the records.
 #[tactic(auto, unfolding(crate::specs::Reports::told_text))]
-fn told(
+fn report_with(
     alloc: Global,
     layout: Layout,
     cores: u32,

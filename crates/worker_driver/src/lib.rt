@@ -6,10 +6,10 @@ mod batches;
 mod finished;
 pub mod laws;
 mod one_run;
+mod run_end;
 mod set_up;
 mod shared_runs;
 mod threads;
-mod told;
 
 pub use batches::{batch, policy_runs, seeded_runs};
 pub use finished::Finished;

@@ -9,8 +9,8 @@ ghost use Rattle.worker_driver.specs.declared.set_up.Driver.TheVariants.{ByPolic
 ghost use Rattle.worker_driver.specs.Outcomes.{HasOutcome};
 ghost use Rattle.worker_driver.specs.Runs.{IsRun};
 
+use crate::run_end::run_end;
 use crate::threads::start_threads;
-use crate::told::told;
 use interleaving_core::{Config, System};
 use litmus_reader::Test;
 use machine_theorem::laws::every_history_is_legal;
@@ -52,7 +52,7 @@ pub(crate) fn open_again(
 
 /// A run of the test by this policy, with at most `limit` turns, on a machine that has just opened with the test's
 /// memory. The end state of a run that is all done is an outcome of the sequential machine. The configuration stays.
-pub(crate) fn run_on(
+pub(crate) fn run_opened(
     alloc: Global,
     test: &Test,
     system: &mut System,
@@ -73,5 +73,5 @@ pub(crate) fn run_on(
     let mut started = start_threads(alloc, test)?;
     let threads = started.as_mut_slice();
     let end = run_to_end(alloc, system, threads, policy, limit);
-    told(alloc, test, end, threads, system)
+    run_end(alloc, test, end, threads, system)
 }

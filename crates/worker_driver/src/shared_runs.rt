@@ -3,7 +3,7 @@ ghost use Rattle.std.specs.Prelude.{◌≡◌, true};
 ghost use Rattle.litmus_reader.specs.TestViews.{test_of};
 ghost use Rattle.machine_table.specs.SetUp.{is_good};
 
-use crate::one_run::{open, run_on};
+use crate::one_run::{open, run_opened};
 use interleaving_core::{Config, System};
 use litmus_reader::Test;
 use report_text::RunEnd;
@@ -40,7 +40,7 @@ impl Jobs<RunEnd, System> for SharedRuns<'_> {
     fn run(&self, begun: &Begun, state: System) -> Result<(RunEnd, System), AllocError> {
         let mut system = state.reopen(self.test.opening()?)?;
         let policy = self.first.of_run(begun.seat());
-        let run = run_on(self.alloc, self.test, &mut system, policy, self.limit)?;
+        let run = run_opened(self.alloc, self.test, &mut system, policy, self.limit)?;
         Ok((run, system))
     }
 }

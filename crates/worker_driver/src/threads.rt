@@ -7,7 +7,7 @@ ghost use Rattle.worker_driver.specs.declared.set_up.Driver.TheVariants.{ByThrea
 ghost use Rattle.worker_driver.specs.Outcomes.{HasOutcome};
 ghost use Rattle.worker_driver.specs.Runs.{AreFrom, IsRun, threads_from};
 
-use crate::told::told;
+use crate::run_end::run_end;
 use interleaving_core::Config;
 use litmus_reader::{Test, ThreadState};
 use physiological_order::Memory;
@@ -77,7 +77,7 @@ fn threaded_run<R: Threads + Clock + Sync, G: Gate + Sync>(
     let ran = run_seats(
         rt, alloc, config, memory, threads, workers, limit, fair, gate,
     )?;
-    told(alloc, test, ran.end, &ran.programs, &ran.run)
+    run_end(alloc, test, ran.end, &ran.programs, &ran.run)
 }
 
 /// The threads as the test opens them.

@@ -20,3 +20,6 @@ returns-clause-every c = λ rows options t. some_taken _ 1 18446744073709551615 
 
 pub returns-clause-cores : goal.returns-clause-cores
 returns-clause-cores c = λ rows asked t. taken _ 1 64 _ (stream_of asked).cores (asked.cores, t.2, refl)
+
+pub returns-clause-progress : goal.returns-clause-progress
+returns-clause-progress c = λ rows asked t. some_taken _ 1 4294967295 asked.progress t.4

@@ -1,6 +1,6 @@
 use Rattle.std.proofs.Common.{arith, refl}
 use Rattle.command_line.specs.Options.{stream_of}
-use Rattle.command_line.proofs.Ranges.{every_in_range, in_range, run_in_range}
+use Rattle.command_line.proofs.Ranges.{in_range, may_be_within, run_in_range}
 use Rattle.command_line.proofs.laws.options_are_in_range.Goals as goal
 
 pub returns-clause-run : goal.returns-clause-run
@@ -16,8 +16,9 @@ returns-clause-ends c = λ rows options t. in_range _ 1 4294967295 _ options.mos
 
 pub returns-clause-trace : goal.returns-clause-trace
 returns-clause-trace c = λ rows options t.
-    (run_in_range rows options.run t.4, every_in_range _ options.every t.2)
+    (run_in_range rows options.run t.4, may_be_within _ 1 18446744073709551615 options.every t.2)
 
 pub returns-clause-stream : goal.returns-clause-stream
 returns-clause-stream c = λ rows asked t.
-    in_range _ 1 64 _ (stream_of asked).cores (omega arith) (omega arith) (asked.cores, t.2, refl)
+    let cores = in_range _ 1 64 _ (stream_of asked).cores (omega arith) (omega arith) (asked.cores, t.2, refl) in
+    (cores.0, cores.1, may_be_within _ 1 4294967295 asked.progress t.4)

@@ -25,7 +25,8 @@ line_of_trace opening complete layout lanes issued records verdict legal text sa
       same is;
   told = subst (λ (cores : ℕ). TellsVerdict complete layout cores (trace_ops lanes) records verdict legal text)
       (sym (length-map issued (λ ops. ops.items)) ∙ ap length same ∙ length-map lanes ops_of)
-      (subst (λ (ops : List (List Op)). TellsVerdict complete layout (length issued) (λ core. slice_index_or ops core [])
+      (subst (λ (ops : List (List Op)). TellsVerdict complete layout (length issued) (λ core. slice_index_or ops core
+      [])
       records verdict legal text) same told);
 }
 
@@ -36,8 +37,11 @@ returns c =
     let verdict = c.in_ok-verdict.verdict in
     let over = subst (λ (issued : IssuedLists). IsVerdict opening (issued_by issued) records verdict)
     c.deref.ensures.value c.in_ok-verdict.ensures.verdict in
-    IfOk-weaker c.told.result _ (λ report. IsVerdictLine opening c.args.complete c.args.layout c.args.trace records report.all_done
-    report.text.items) (λ report told. line_of_trace opening c.args.complete c.args.layout c.args.trace _ records verdict
+    IfOk-weaker c.report_on_verdict.result _ (λ report. IsVerdictLine opening c.args.complete c.args.layout c.args.trace
+    records report.all_done
+    report.text.items) (λ report told. line_of_trace opening c.args.complete c.args.layout c.args.trace _ records
+    verdict
     report.all_done report.text.items c.in_ok-issued.ensures over (subst (λ (issued : IssuedLists).
-    TellsVerdict c.args.complete c.args.layout (length issued) (issued_by issued) records verdict report.all_done report.text.items)
-    c.deref-2.ensures.value told)) c.told.ensures
+    TellsVerdict c.args.complete c.args.layout (length issued) (issued_by issued) records verdict report.all_done
+    report.text.items)
+    c.deref-2.ensures.value told)) c.report_on_verdict.ensures

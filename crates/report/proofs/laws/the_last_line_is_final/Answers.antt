@@ -34,5 +34,6 @@ shown test ends held seen outcomes has =
 
 pub returns-clause-sometimes : goal.returns-clause-sometimes
 returns-clause-sometimes c = λ options bytes text done told is held.
-    shown told.test (values_in told.every) held (text_well_formed bytes told.test told.is_test).all_seen told.lists.outcomes
+    shown told.test (values_in told.every) held (text_well_formed bytes told.test told.is_test).all_seen
+    told.lists.outcomes
     (sometimes told.test (values_in told.every) (listed told.test told.every _ is) held)

@@ -29,4 +29,5 @@ returns c =
     let entries = c.args.states.now.entries in
     parted_done c.args.layout (λ at. state_text c.args.layout (test_of c.args.test.now))
     (state_entries entries) c.loop-values.index _ _
-    (slice_get-map entry entries c.loop-values.index ∙ ap (option_map entry) (sym c.get_index.ensures.entry ∙ ap now_of c.in_default.is)) c.loop-values.invariant.states
+    (slice_get-map entry entries c.loop-values.index ∙ ap (option_map entry) (sym c.get_index.ensures.entry ∙ ap now_of
+    c.in_default.is)) c.loop-values.invariant.states

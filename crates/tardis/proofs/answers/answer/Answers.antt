@@ -12,6 +12,7 @@ pub returns-in-Ok : goal.returns-in-Ok
 returns-in-Ok g c = inr (
   c.in-Ok.job,
   c.run_job-came.result,
+  c.run_job-came.new.errors,
   c.in-Ok.ensures.job,
   c.exit_status.ensures,
   c.run_job-came.ensures,

@@ -3,4 +3,5 @@ use Rattle.tardis_c.proofs.lacks.counts_of.Given as goal
 
 abbrev pub invariant-loop-item : goal.invariant-loop-item
 invariant-loop-item g l =
-    (core : ℕ) → get_or l.counts.items core 0 ≡ count_by (λ item. g.T.OfCore.core item == core) (take l.item-index l.items)
+    (core : ℕ) → get_or l.counts.items core 0 ≡ count_by (λ item. g.T.OfCore.core item == core) (take l.item-index
+    l.items)

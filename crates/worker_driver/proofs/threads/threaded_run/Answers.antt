@@ -21,8 +21,8 @@ run_seats-requires-clause-programs g c κs bounds =
     ap length c.in_ok-threads.ensures ∙ threads_count (test_of c.args.test.now) 0 (test_of c.args.test.now).threads
     ∙ sym c.requires.cores
 
-pub told-requires : goal.told-requires
-told-requires g c =
+pub run_end-requires : goal.run_end-requires
+run_end-requires g c =
     let is = c.in_ok-ran.ensures.run in
     (machine_of c.in_ok-ran.ran.run is.parts, (is.parts, refl))
 
@@ -35,7 +35,7 @@ returns-clause-run g c =
     let run_is = subst (λ (ts : List Thread).
     IsThreadRun thread_acts c.args.fair c.args.limit ts m ran.programs.items ran.end)
     c.in_ok-threads.ensures (record { run = ran.run; is_run = is; shows = refl }) in
-    IfOk-weaker c.told.result _ _ (λ run told. record {
+    IfOk-weaker c.run_end.result _ _ (λ run told. record {
       machine = m;
       threads = ran.programs.items;
       led = (
@@ -46,7 +46,7 @@ returns-clause-run g c =
             (sym told.0) run_is,
       );
       told = subst (λ (ts : List Thread). Tells test m ts run) c.deref.ensures.value (told.1 m (is.parts, refl));
-    }) c.told.ensures
+    }) c.run_end.ensures
 
 pub returns-clause-outcome : goal.returns-clause-outcome
 returns-clause-outcome g c =
@@ -61,10 +61,10 @@ returns-clause-outcome g c =
     ran.programs.items) opened
     (subst (λ (ts : List Thread). AreServed thread_acts (at_start m.config m.opening) m ts ran.programs.items)
     c.in_ok-threads.ensures is.served) in
-    IfOk-weaker c.told.result _ _ (λ run told.
+    IfOk-weaker c.run_end.result _ _ (λ run told.
     has_outcome c.performed_histories_are_sequential.ensures test m.config m ran.programs.items
     (ap (λ (k : Config). k.cores) config_is ∙ c.requires.cores) opened
     (c.closed_machines_are_consistent.ensures ran.run is.parts) served
     (well_formed c.args.test.now) run.end (λ done. is.done (sym told.0 ∙ done)) run.state
     (subst (λ (ts : List Thread). Tells test m ts run) c.deref.ensures.value (told.1 m (is.parts, refl))).state)
-    c.told.ensures
+    c.run_end.ensures

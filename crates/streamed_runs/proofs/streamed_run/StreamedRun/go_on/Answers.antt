@@ -79,7 +79,8 @@ returns-clause-went g c = λ taken going.
           (c.is_done.ensures.not c.if-is_done.false all))
           (λ is core below. let most = turns.ahead (turned c.in_ok-has_more.has_more false is) in
           let least = c.shortest.ensures.least core (omega (arith, below, many)) in omega (arith, most, least))
-          c.make_piece-end.new.pace c.make_piece-end.new.system (refill (length queues) queues c.make_piece-end.new.queues)
+          c.make_piece-end.new.pace c.make_piece-end.new.system (refill (length queues) queues
+          c.make_piece-end.new.queues)
           c.make_piece-end.result.0 c.make_piece-end.result.1.items
           (put_back c.make_piece-end.ensures queues c.queues-queues.ensures.value c.make_piece-end.auto.queues)
           c.add.new.self (c.in-Ok.ensures ∙ ap (all_counted c.self.inside.summary) c.deref.ensures.value)),

@@ -25,14 +25,16 @@ returns-in_err-take_one-clause-filled g c =
     let error = err_from_is_err_and c.from_residual.result c.from_residual.ensures.1 in
     let not : c.from_residual.result ≢ Ok true = λ is. let e = error.1 in absurd cc in
     no-more c.args.wanted c.from_residual.result _ _ _ _ _ _ i.taken not i.yields i.kept i.needed
-    (too-few c.args.wanted c.args.self.now.queues c.steps.self.queues i.taken c.steps.left c.steps.at i.left i.kept.queued
+    (too-few c.args.wanted c.args.self.now.queues c.steps.self.queues i.taken c.steps.left c.steps.at i.left
+    i.kept.queued
     i.none (c.reads_on.ensures.more c.steps-test.true)) (c.in_err-take_one.ensures.none (λ e. absurd cc))
 
 pub returns-then-not-branch-clause-filled : goal.returns-then-not-branch-clause-filled
 returns-then-not-branch-clause-filled g c =
     let i = c.steps.invariant in
     no-more c.args.wanted (Ok false) _ _ _ _ _ _ i.taken (λ e. absurd cc) i.yields i.kept i.needed
-    (too-few c.args.wanted c.args.self.now.queues c.steps.self.queues i.taken c.steps.left c.steps.at i.left i.kept.queued
+    (too-few c.args.wanted c.args.self.now.queues c.steps.self.queues i.taken c.steps.left c.steps.at i.left
+    i.kept.queued
     i.none (c.reads_on.ensures.more c.steps-test.true))
     (c.in_ok-take_one.ensures.none (λ e. let not = c.if-not-branch.true in absurd cc))
 

@@ -28,7 +28,8 @@ returns-in_err-take_held-in-Ok-true-clause-stops g c =
     let same : failures c.hold.new.source ≡ failures c.args.source.now = c.in-Ok-true.ensures.none_failed in
     let told : Stops (length c.args.self.now.queues) (failures c.args.source.now) (failures c.hold.new.source)
     (where_known known to_come) e =
-    subst (λ (n : ℕ). Stops (length c.args.self.now.queues) (failures c.args.source.now) n (where_known known to_come) e)
+    subst (λ (n : ℕ). Stops (length c.args.self.now.queues) (failures c.args.source.now) n (where_known known to_come)
+    e)
     (sym same) (subst (λ (s : AheadState). Stops (length s.queues) (failures c.args.source.now)
     (failures c.args.source.now) (where_known known to_come) e) c.self.view_is
     (stops-known known to_come _ _ _ e (c.in_err-take_held-in-Ok-true.ensures.stops

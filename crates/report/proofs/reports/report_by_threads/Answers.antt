@@ -8,7 +8,7 @@ use Rattle.thread_driver.specs.ThreadRuns.{machine_of}
 use Rattle.worker_driver.specs.declared.set_up.Driver.TheVariants.{ByThreads}
 use Rattle.report.specs.Reports.{IsCounted, is_counted}
 use Rattle.report.proofs.Told.{told_run}
-use Rattle.report.proofs.reports.told_by_threads.Goals as goal
+use Rattle.report.proofs.reports.report_by_threads.Goals as goal
 
 -- a run by threads has no counter
 uncounted : (b fair : Bool) (every : Option ℕ) (limit : ℕ) (config : Config) (lanes : List (List Step)) (end : End)

@@ -4,7 +4,7 @@ use Rattle.event_counts.specs.Counting.{Counter, counter_events}
 use Rattle.worker_driver.specs.declared.set_up.Driver.TheVariants.{ByPolicy}
 use Rattle.report.specs.Runs.{IsWatched}
 use Rattle.report.proofs.Told.{told_run}
-use Rattle.report.proofs.reports.told_by_policy.Goals as goal
+use Rattle.report.proofs.reports.report_by_policy.Goals as goal
 
 pub report_on-requires : goal.report_on-requires
 report_on-requires c =

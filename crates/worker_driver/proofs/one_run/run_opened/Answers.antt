@@ -16,7 +16,7 @@ use Rattle.sequential_machine.specs.Performed.{thread_acts}
 use Rattle.worker_driver.proofs.OnOk.{on_ok}
 use Rattle.worker_driver.proofs.Rows.{threads_count}
 use Rattle.worker_driver.proofs.Sequential.{has_outcome}
-use Rattle.worker_driver.proofs.one_run.run_on.Goals as goal
+use Rattle.worker_driver.proofs.one_run.run_opened.Goals as goal
 
 pub run_to_end-end-requires : goal.run_to_end-end-requires
 run_to_end-end-requires c = record {
@@ -25,8 +25,8 @@ run_to_end-end-requires c = record {
       ∙ sym c.requires.cores;
 }
 
-pub told-requires : goal.told-requires
-told-requires c = (c.run_to_end-end.new.system, refl)
+pub run_end-requires : goal.run_end-requires
+run_end-requires c = (c.run_to_end-end.new.system, refl)
 
 pub returns-clause-run : goal.returns-clause-run
 returns-clause-run c =
@@ -39,7 +39,7 @@ returns-clause-run c =
     (subst (λ (k : Machine). EndedBy thread_acts c.args.policy c.args.limit k
     c.as_mut_slice-threads.result.now c.run_to_end-end.ensures.ended.0 m last c.run_to_end-end.result)
     c.requires.opened c.run_to_end-end.ensures.ended.1) in
-    IfOk-weaker c.told.result _ _ (λ run told. record {
+    IfOk-weaker c.run_end.result _ _ (λ run told. record {
       machine = m;
       threads = last;
       led = (
@@ -49,7 +49,7 @@ returns-clause-run c =
             c.run_to_end-end.ensures.ended.0 m last e) (sym told.0) ended,
       );
       told = told.1 m refl;
-    }) c.told.ensures
+    }) c.run_end.ensures
 
 pub returns-clause-outcome : goal.returns-clause-outcome
 returns-clause-outcome c =
@@ -69,14 +69,14 @@ returns-clause-outcome c =
     let consistent = subst IsConsistent (sym after)
     (c.every_history_is_legal.ensures.consistent config words events c.requires.good) in
     let opened = ap (λ (k : Machine). k.opening) after ∙ c.every_history_is_legal.ensures.opening config words events in
-    IfOk-weaker c.told.result _ _ (λ run told.
+    IfOk-weaker c.run_end.result _ _ (λ run told.
     has_outcome c.performed_histories_are_sequential.ensures test config m threads c.requires.cores opened consistent
     served (well_formed c.args.test.now) run.end (λ done core below. c.run_to_end-end.ensures.all_done
     (sym told.0 ∙ done) core below)
-    run.state (told.1 m refl).state) c.told.ensures
+    run.state (told.1 m refl).state) c.run_end.ensures
 
 pub returns-clause-config : goal.returns-clause-config
 returns-clause-config c =
     let ended = c.run_to_end-end.ensures.ended in
-    on_ok c.told.result (ap (λ (m : Machine). m.config) ended.2
+    on_ok c.run_end.result (ap (λ (m : Machine). m.config) ended.2
     ∙ (after_all_same c.args.system.now ended.0).config)

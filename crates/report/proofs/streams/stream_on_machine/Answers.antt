@@ -1,10 +1,11 @@
 use Rattle.std.proofs.Common.{[], ◌∙◌, true≢false, ap, sym}
 use Rattle.worker_driver.specs.declared.set_up.Driver.TheVariants.{ByPolicy}
 use Rattle.report.proofs.StreamedPieces.{text_comes}
-use Rattle.report.proofs.streams.told.Goals as goal
+use Rattle.report.proofs.ToldProgress.{nothing_told}
+use Rattle.report.proofs.streams.stream_on_machine.Goals as goal
 
-pub told_by_pieces-requires-clause-running : goal.told_by_pieces-requires-clause-running
-told_by_pieces-requires-clause-running g c =
+pub stream_in_pieces-requires-clause-running : goal.stream_in_pieces-requires-clause-running
+stream_in_pieces-requires-clause-running g c =
     let run = c.in-Ok.run' in
     let given = c.in-Ok.ensures.given in record {
       taken = [];
@@ -16,3 +17,8 @@ told_by_pieces-requires-clause-running g c =
       limit = given.2 ∙ c.limit_of-limit.ensures.limit;
       names = given.3 ∙ c.asks_words-names.ensures;
     }
+
+pub returns-in_default-clause-telling : goal.returns-in_default-clause-telling
+returns-in_default-clause-telling g c =
+    nothing_told c.args.options.now (g.S.Source.remaining c.args.source.now) (g.E.Sink.contents c.args.errors.now)
+    (g.E.Sink.failures c.args.errors.now)

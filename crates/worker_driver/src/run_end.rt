@@ -13,7 +13,7 @@ use report_text::RunEnd;
 use std::alloc::{AllocError, Global};
 
 /// The result of a run of the test that ended so, with these threads and this machine.
-pub(crate) fn told<M: Finished>(
+pub(crate) fn run_end<M: Finished>(
     alloc: Global,
     test: &Test,
     end: End,

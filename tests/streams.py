@@ -8,7 +8,7 @@ and its report without words. If a line is at fault, standard error says which. 
 beginning of the records of the lines before it, and no more than the second program can write (docs/STREAMS.md).
 
 Pipes are tried that stay open or are long, and readers that leave early. With `--progress` lines on standard error tell
-how far a run of 3,000,000 operations is; all else must be as without. The parts are examples, faults, cut_texts,
+how far a run of 2,000,000 operations is; all else must be as without. The parts are examples, faults, cut_texts,
 cores, odd_texts, pipes, memory, waits, progress, long, which is a text of 20,000,000 lines, and at_random.
 --traces and --seed say how many traces are drawn, and which. --self-test spoils each answer: first the status, then the
 output, then standard error; and says which comparison doesn't notice. The last line is `N tried, M wrong`.
@@ -452,44 +452,34 @@ def is_progress(error, every, end):
         not falls and (not told or told[-1] == end or told[-1][0] < end[0])
 
 
-def turns_of(tester, completed, *words):
-    """The report on the run that is cut where this number of operations is completed."""
-    least, most = 1, completed
-    while least < most:
-        middle = (least + most) // 2
-        report = tester.run("trace", "--stream", *words, "--limit", str(middle), "/dev/stdin", text=MIXED * 250000)[1]
-        least, most = (middle + 1, most) if numbers_of(report)[0] < completed else (least, middle)
-    return tester.run("trace", "--stream", *words, "--limit", str(least), "/dev/stdin", text=MIXED * 250000)[1]
-
-
-MIXED = b"0 W 0x0 1\n1 R 0x0\n2 R 0x8\n0 R 0x8\n1 S 0x8 3\n2 R 0x0\n"  # 2,000,000 lines and more have stale hits
+# In some 2,000,000 such lines all counted messages are sent, and loads hit stale copies.
+MIXED = b"0 W 0x0 1\n1 R 0x0\n2 W 0x8 5\n0 R 0x10\n1 S 0x8 3\n2 R 0x0\n"
 
 
 def progress(tester, folder):
-    """How far a run of 3,000,000 operations is: its lines, which change nothing else, and the numbers in them."""
+    """How far a run of 2,000,000 operations is: its lines, which change nothing else, and the numbers in them."""
     path = Path(folder, "mixed.trace")
-    path.write_bytes(MIXED * (MILLION // 2))
+    path.write_bytes(MIXED * (2 * MILLION // 6) + b"0 R 0x0\n1 R 0x0\n")
     for policy in NO_LIMIT, by_seed(NO_LIMIT, 3), ["--limit", "1500000"]:
         words = ["--cores", "3", *policy, str(path)]
         plain = tester.run("trace", "--stream", *words)
         end = numbers_of(plain[1])
         tester.covers(end[0] > MILLION and min(end) > 0, f"{policy}: {shown(plain)}")
-        for every in 1, 2, 3, 4:
+        for every in 1, 2, 3:
             got = tester.stream("--progress", str(every), *words)
             tester.expect(got[:2] == plain[:2] and is_progress(got[2], every, end), f"{every} {policy}: {shown(got)}")
-        lines = tester.run("trace", "--stream", "--progress", "1", *words)[2]
-        for form in ["--records"], ["--json"], ["--no-words"]:
-            status, out, error = tester.run("trace", "--stream", *form, *words)
-            got = tester.stream("--progress", "1", *form, *words)
-            tester.expect(got == (status, out, lines) and error == "", f"{form} {policy}: {shown(got)}")
-        unheard(tester, words, plain)
-    text = MIXED * 250000
+    lines = tester.run("trace", "--stream", "--progress", "1", *words)[2]
+    for form in ["--records"], ["--json"], ["--no-words"]:
+        status, out, error = tester.run("trace", "--stream", *form, *words)
+        got = tester.stream("--progress", "1", *form, *words)
+        tester.expect(got == (status, out, lines) and error == "", f"{form}: {shown(got)}")
+    unheard(tester, words, plain)
+    text = MIXED * 400000
     got = tester.stream("--progress", "1", "--cores", "3", *NO_LIMIT, "/dev/stdin", text=text + b"0 X\n")
-    line = got[2].partition("\n")[0] + "\n"
-    told = PROGRESS.fullmatch(line)
-    tester.expect(got == (2, "", f"{line}tardis: line {6 * 250000 + 1}: 5 BadOperation\n") and told is not None
-                  and is_progress(line, 1, numbers_of(turns_of(tester, int(told[1]), "--cores", "3"))),
-                  f"a fault behind a line: {shown(got)}")
+    lines, fault = got[2][:got[2].rfind("\n", 0, -1) + 1], f"tardis: line {6 * 400000 + 1}: 5 BadOperation\n"
+    told = [tuple(map(int, line)) for line in PROGRESS.findall(lines)]
+    tester.expect(got == (2, "", lines + fault) and told and is_progress(lines, 1, told[-1]),
+                  f"a fault behind lines: {shown(got)}")
 
 
 def unheard(tester, words, plain):

@@ -55,10 +55,10 @@ def of_rust(text):
 
 
 def width(kind):
-    """A type of the Python package, as `fields` has it."""
+    """A type of the Python package, as `fields` has it; its name, if it isn't a whole number without a sign."""
     if issubclass(kind, ctypes.Array):
         return f"{width(kind._type_)}*{kind._length_}"
-    return kind.__name__.lower() if issubclass(kind, ctypes.Structure) else str(8 * ctypes.sizeof(kind))
+    return {structures.U32: "32", structures.U64: "64"}.get(kind, kind.__name__.lower())
 
 
 def of_python():
@@ -102,8 +102,7 @@ def in_python():
             return "*"
         if hasattr(of, "contents"):
             return f"{kind(of._type_)} *"
-        is_whole = not issubclass(of, ctypes.Structure)
-        return f"uint{8 * ctypes.sizeof(of)}_t" if is_whole else f"struct tardis_{of.__name__.lower()}"
+        return f"struct tardis_{of.__name__.lower()}" if issubclass(of, ctypes.Structure) else f"uint{width(of)}_t"
 
     return {prefix + name: ("void" if name in structures.SILENT else "uint32_t", [kind(each) for each in takes])
             for prefix, calls in (("tardis_c_", structures.CALLS), ("tardis_c_system_", structures.CALLS_OF_SYSTEMS))

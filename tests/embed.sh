@@ -54,7 +54,7 @@ strict="-O1 -Wall -Wextra -Werror -I$crate"
     g++ -std=c++17 -pedantic $strict -o "$work/views" "$embed/views.cpp" $library &&
     g++ -std=c++17 -pedantic $strict -Wl,--wrap=tardis_c_trace -o "$work/reports" "$top/tests/reports.cpp" $library &&
     g++ -std=c++17 -pedantic $strict $memory -o "$work/machines" "$top/tests/machines.cpp" $library &&
-    g++ -std=c++17 -pedantic $strict -o "$work/throws" "$top/tests/throws.cpp" $library &&
+    g++ -std=c++17 -pedantic $strict $memory -o "$work/throws" "$top/tests/throws.cpp" $library &&
     gcc -std=c11 -pedantic $strict $memory -o "$work/system_calls" "$top/tests/system_calls.c" $library &&
     g++ -x c++ -std=c++11 -pedantic $strict $memory -o "$work/system_calls_cpp" "$top/tests/system_calls.c" \
         -x none $library &&

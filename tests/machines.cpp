@@ -41,7 +41,8 @@ bool is_none(tardis::Machine &machine) {
         if (answer.number != TARDIS_NO_SYSTEM || answer.kind != TARDIS_REFUSED || answer.cause() != "") return false;
     return !machine.victim(0, 8) && !machine.room(0) && !machine.message(0) && machine.in_flight().empty() &&
            !machine.record(0) && machine.records().empty() && !machine.open_operation(0) &&
-           machine.copies(0).number == TARDIS_NO_SYSTEM && machine.entries(0).number == TARDIS_NO_SYSTEM && !machine.owners(8) && !machine.value(8) && !machine.totals();
+           machine.copies(0).number == TARDIS_NO_SYSTEM && machine.entries(0).number == TARDIS_NO_SYSTEM &&
+           !machine.owners(8) && !machine.value(8) && !machine.totals();
 }
 
 // Machines that aren't opened, and why.
@@ -146,6 +147,29 @@ void places() {
     expect(open.kind == TARDIS_STORE && open.address == UINT64_MAX - 7 && open.value == UINT64_MAX, "what is open");
 }
 
+// Lines of eight words, each named by one of its words: a swap, what it gives up, and what a bank does.
+void wide() {
+    tardis_options options = tardis::defaults();
+    options.line_words = 8;
+    options.sets = options.ways = options.bank_sets = options.bank_ways = 1;
+    auto machine = tardis::Machine::open(1, options);
+    machine->issue({0, TARDIS_SWAP, 0x88, 7});
+    machine->attempt(0);
+    for (const uint64_t number : {0, 1, 2, 0, 3}) machine->deliver(number);
+    expect(machine->attempt(0).kind == TARDIS_COMPLETED, "a swap in a line of eight words");
+    expect(machine->copies(0) == std::vector<uint64_t>{0x80}, "a copy of eight words");
+    expect(machine->owners(0xb8) == 1 && machine->owners(0xc0) == 0 && machine->owners(0x78) == 0, "whose line it is");
+    expect(machine->value(0x88) == 7 && machine->value(0x80) == 0, "words of a line");
+    expect(machine->victim(0, 0x100) == 0x80 && !machine->victim(0, 0xb8), "a victim of eight words");
+    expect(is(machine->evict_copy(0, 0xb8), TARDIS_EVICTED), "a copy that is given up");
+    expect(is(machine->deliver(4), TARDIS_DELIVERED), "its return");
+    expect(machine->entries(0) == std::vector<uint64_t>{0x80}, "an entry of eight words");
+    machine->issue({0, TARDIS_LOAD, 0x138, 0});
+    machine->attempt(0);
+    expect(machine->message(5)->address == 0x100 && machine->room(5) == std::pair(0u, uint64_t(0x80)), "its room");
+    expect(is(machine->evict_entry(0, 0xa0), TARDIS_EVICTED) && machine->message(6)->words[1] == 7, "its store");
+}
+
 // More lines than fit where they are first put, from the last to the first.
 void many() {
     auto machine = tardis::Machine::open(1);
@@ -188,6 +212,7 @@ int main() {
     moved();
     loads();
     places();
+    wide();
     many();
     records();
 }

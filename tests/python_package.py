@@ -104,6 +104,16 @@ def texts(command, most):
     return tried
 
 
+class Index:
+    """A whole number of a type of its own, as numpy has them."""
+
+    def __init__(self, number):
+        self.number = number
+
+    def __index__(self):
+        return self.number
+
+
 def machine():
     """A load of core 1 by hand, and what is refused."""
     with tardis.Machine(cores=2, lease=10, memory={8: 5}) as opened:
@@ -133,7 +143,7 @@ def machine():
             fail("a message that isn't there")
         if opened.records(1) or opened.records().columns()["received"] != [5] or opened.records().end is not None:
             fail("columns")
-        if opened.store(0, 16, 9).name != "issued" or opened.open_operation(0) != "W 0x10 9":
+        if opened.store(Index(0), Index(16), Index(9)).name != "issued" or opened.open_operation(0) != "W 0x10 9":
             fail("a store")
         opened.attempt(0)
         opened.load(1, 24)
@@ -159,9 +169,11 @@ def several(opened):
         fail(f"the record of an event among others: {came}")
     for wrong in ("no event", "issue 1 R 0x8 5", "issue 1 W 0x8", "issue 1 X 0x8", "issue 1 R 8", "issue 1 R 0xG",
                   "attempt -1", "attempt \u0661", "deliver 4", "deliver mm", "evict bank 0", "evict dram 0 0x0", "advance",
-                  "attempt 1;", ""):
-        refuses(ValueError, lambda: opened.run("attempt 0", wrong), repr(wrong))
-    if opened.run() or opened.open_operation(0) != "W 0x10 9 requested" or opened.totals().messages != 1:
+                  "attempt 1;", "", "issue 1 R 0x4", "issue 1048576 R 0x8", f"issue 1 W 0x8 {2 ** 64}",
+                  f"attempt {2 ** 32}", f"deliver m{2 ** 64}", "evict core 1 0x4", f"evict bank 0 {2 ** 61}"):
+        refuses(ValueError, lambda: opened.run("issue 1 R 0x8", wrong), repr(wrong))
+    if opened.run() or opened.open_operation(0) != "W 0x10 9 requested" or opened.totals().messages != 1 or \
+            opened.open_operation(1) is not None:
         fail("events that can't be read, or none")
     came = opened.run("issue 1 S 0x18 7", "evict core 1 3", "evict core 1 0x18", "evict bank 0 3", "advance 1")
     if came != [tardis.Answer("issued"), tardis.Answer("refused", "Pinned"), tardis.Answer("refused", "Pinned"),
@@ -209,10 +221,21 @@ def places():
             fail(f"a place in a bank: {came}")
         if small.advance(1).name != "advanced" or small.victim(9, 8) is not None or small.check() != "legal":
             fail("an advance")
-    wide = tardis.Machine(cores=1, line_words=8, memory={0x40: 1, 0x78: 2 ** 64 - 1})
+    wide = tardis.Machine(cores=Index(1), line_words=Index(8), lease=Index(10), memory={0x40: 1, 0x78: 2 ** 64 - 1})
     wide.run("issue 0 R 0x48", "attempt 0", "deliver m0", "deliver m1")
-    if wide.message(2).words != (1, 0, 0, 0, 0, 0, 0, 2 ** 64 - 1) or wide.message(2).address != 0x40:
+    if wide.message(2).words != (1, 0, 0, 0, 0, 0, 0, 2 ** 64 - 1) or wide.message(2).address != 0x40 \
+            or wide.victim(0, 0x48) is not None:
         fail(f"eight words: {wide.message(2)}")
+
+
+def asked():
+    """By hand: a core that stores to a line of which it has a copy of version 0."""
+    with tardis.Machine() as opened:
+        opened.run("issue 1 R 0x8; attempt 1; deliver m0; deliver m1; deliver m2; deliver m0; deliver m3; attempt 1",
+                   "issue 1 W 0x8 6; attempt 1")
+        sent = opened.message(4)
+        if (sent, sent.carries) != (tardis.Message(4, "ExReq", "core 1", "bank 0", 8, version=0), "version 0"):
+            fail(f"a request of version 0: {sent}")
 
 
 def many():
@@ -275,7 +298,10 @@ def troubles():
         refuses(tardis.TardisError, call, "a machine that is closed")
     kept = tardis.Machine()
     of_kept = copy.copy(kept)
+    kept.run("issue 1 R 0x8; attempt 1; deliver m0; deliver m1; deliver m2; deliver m0; deliver m3; attempt 1")
     kept.load(0, 8)
+    if (kept.check(), of_kept.check(), kept.check()) != ("legal", "legal", "legal"):
+        fail("a machine that is checked by two names")
     del kept  # but the other one has its machine
     if of_kept.open_operation(0) != "R 0x8":
         fail("a machine that something refers to")
@@ -870,7 +896,8 @@ def packaged():
 
 def another_version():
     """A library of another version than the package's is refused."""
-    version, tardis.version.VERSION = tardis.version.VERSION, "0.1.1"
+    version = tardis.version.VERSION
+    tardis.version.VERSION = version.rpartition(".")[0] + ".99"
     refuses(tardis.TardisError, lambda: tardis.trace(""), "a library of another version")
     tardis.version.VERSION = version
 
@@ -880,6 +907,7 @@ def machines(is_proved):
     if machine() != is_proved:
         fail("which machine answers")
     places()
+    asked()
     many()
     troubles()
     return latency()

@@ -176,6 +176,37 @@ static void loads(void) {
     MUST(answer.completed.operation.value == 0 && answer.completed.received == 5);
 }
 
+/* Core 1 then stores to the word, gives up the line, and the bank stores it: the line's first store in DRAM, m7, takes
+   memory. What a message doesn't carry is 0. */
+static void stores(void) {
+    static const struct tardis_operation store = {1, TARDIS_STORE, 8, 6};
+    static const struct tardis_message sent[] = {
+        {4, TARDIS_EX_REQ, TARDIS_CORE, 1, TARDIS_BANK, 0, 1, 0, 1, 0, 0, 0, {0}},
+        {5, TARDIS_UPGRADE_REP, TARDIS_BANK, 0, TARDIS_CORE, 1, 1, 0, 0, 0, 0, 10, {0}},
+        {6, TARDIS_FLUSH_REP, TARDIS_CORE, 1, TARDIS_BANK, 0, 1, 0, 0, 0, 11, 11, {6}},
+        {7, TARDIS_DRAM_ST, TARDIS_BANK, 0, TARDIS_DRAM, 0, 1, 0, 0, 0, 0, 0, {6}},
+        {8, TARDIS_DRAM_ST_REP, TARDIS_DRAM, 0, TARDIS_BANK, 0, 1, 0, 0, 0, 0, 0, {0}}};
+    size_t at;
+    while (again(tardis_system_issue(&machine, &store, &answer))) {}
+    while (again(tardis_system_attempt(&machine, 1, &answer))) {}
+    MUST(answer.kind == TARDIS_REQUESTED);
+    for (at = 0; at < 5; at++) {
+        MUST(tardis_system_message(&machine, at + 4, &message) == TARDIS_DONE);
+        MUST(memcmp(&message, &sent[at], sizeof message) == 0);
+        while (again(tardis_system_deliver(&machine, at + 4, &answer))) {}
+        MUST(answer.kind == TARDIS_DELIVERED);
+        if (at == 1) {
+            while (again(tardis_system_attempt(&machine, 1, &answer))) {}
+            MUST(answer.kind == TARDIS_COMPLETED && answer.completed.received == 0);
+            while (again(tardis_system_evict_copy(&machine, 1, 1, &answer))) {}
+            MUST(answer.kind == TARDIS_EVICTED);
+        } else if (at == 2) {
+            while (again(tardis_system_evict_entry(&machine, 0, 1, &answer))) {}
+            MUST(answer.kind == TARDIS_EVICTED);
+        }
+    }
+}
+
 static void faults(void) {
     struct tardis_operation wrong = load;
     loads();
@@ -223,6 +254,7 @@ static void refused(void) {
     unsigned at, most;
     growths = 0;
     loads();
+    stores();
     most = growths;
     tardis_system_close(&machine);
     for (at = 1; at <= most; at++) {
@@ -230,6 +262,7 @@ static void refused(void) {
         refused_at = at;
         was_refused = 0;
         loads();
+        stores();
         MUST(was_refused || growths == most + 1);
         refused_at = 0;
         tardis_system_close(&machine);

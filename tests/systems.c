@@ -28,8 +28,17 @@ static void put_record(const struct tardis_record *record) {
     printf(" %" PRIu64 " %" PRIu64 "\n", record->time, record->number);
 }
 
+/* Whether all bytes are 0. */
+static int is_zero(const void *at, size_t size) {
+    const unsigned char *const bytes = (const unsigned char *)at;
+    size_t each = 0;
+    while (each < size && bytes[each] == 0) each++;
+    return each == size;
+}
+
 static void put_answer(int number, const struct tardis_answer *answer) {
     must(number, TARDIS_DONE);
+    must(answer->kind == TARDIS_COMPLETED || is_zero(&answer->completed, sizeof answer->completed), 1);
     fputs(tardis_answer_name(answer->kind), stdout);
     if (answer->kind == TARDIS_COMPLETED || answer->kind == TARDIS_REFUSED) putchar(' ');
     if (answer->kind == TARDIS_COMPLETED) put_record(&answer->completed);
@@ -62,6 +71,7 @@ static void event(const char *line) {
 
 static void put_place(int number, const struct tardis_place *place, const char *bank) {
     if (number == TARDIS_NO_SUCH || !place->is_there) {
+        must(number == TARDIS_NO_SUCH || is_zero(place, sizeof *place), 1);
         puts("none");
         return;
     }
@@ -70,13 +80,18 @@ static void put_place(int number, const struct tardis_place *place, const char *
     printf("0x%" PRIx64 "\n", place->line * line_bytes);
 }
 
-/* A message. Of the words that it doesn't carry, each must be 0. */
+/* A message. What it doesn't carry must be 0. */
 static void put_message(const struct tardis_message *message) {
     const uint64_t kind = message->kind;
     const int has_line = kind == TARDIS_SH_REP || kind == TARDIS_EX_REP || kind == TARDIS_FLUSH_REP ||
                          kind == TARDIS_WB_REP;
     const uint64_t words = has_line || kind == TARDIS_DRAM_LD_REP || kind == TARDIS_DRAM_ST ? line_bytes / 8 : 0;
+    const int has_rts = kind >= TARDIS_SH_REP && kind <= TARDIS_WB_REP && kind != TARDIS_FLUSH_REQ;
     uint64_t at;
+    must(kind == TARDIS_SH_REQ || !message->pts, 1);
+    must(kind <= TARDIS_EX_REQ ? message->has_version || !message->version
+                               : !message->has_version && !message->version, 1);
+    must((has_line || !message->wts) && (has_rts || !message->rts), 1);
     printf("%s %s %" PRIu64 " > %s %" PRIu64 " 0x%" PRIx64, tardis_message_name(kind),
            tardis_end_name(message->from_kind), message->from, tardis_end_name(message->to_kind), message->to,
            message->line * line_bytes);
@@ -84,8 +99,7 @@ static void put_message(const struct tardis_message *message) {
     if (kind <= TARDIS_EX_REQ && message->has_version) printf(" version %" PRIu64, message->version);
     else if (kind <= TARDIS_EX_REQ) fputs(" version none", stdout);
     if (has_line) printf(" wts %" PRIu64, message->wts);
-    if (kind >= TARDIS_SH_REP && kind <= TARDIS_WB_REP && kind != TARDIS_FLUSH_REQ)
-        printf(" rts %" PRIu64, message->rts);
+    if (has_rts) printf(" rts %" PRIu64, message->rts);
     if (words) fputs(" words", stdout);
     for (at = 0; at < 8; at++) {
         if (at < words) printf(" %" PRIu64, message->words[at]);
@@ -98,6 +112,7 @@ static void put_open(unsigned core) {
     struct tardis_open opened;
     const int number = tardis_system_open_operation(&machine, core, &opened);
     if (number == TARDIS_NO_SUCH || opened.state == 0) {
+        must(number == TARDIS_NO_SUCH || is_zero(&opened, sizeof opened), 1);
         puts("none");
         return;
     }

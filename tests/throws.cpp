@@ -1,9 +1,19 @@
-// Errors of tardis.hpp as exceptions, by hand. What isn't an error is answered.
+// Errors of tardis.hpp as exceptions, by hand. What isn't an error is answered. The program is linked with --wrap=malloc
+// and --wrap=realloc, which refuse memory where they are told to.
 #define TARDIS_EXCEPTIONS
 #include "tardis.hpp"
 
 #include <cstdlib>
 #include <iostream>
+
+static bool is_refused;
+
+extern "C" {
+void *__real_malloc(size_t size);
+void *__real_realloc(void *block, size_t size);
+void *__wrap_malloc(size_t size) { return is_refused ? nullptr : __real_malloc(size); }
+void *__wrap_realloc(void *block, size_t size) { return is_refused ? nullptr : __real_realloc(block, size); }
+}
 
 namespace {
 
@@ -83,6 +93,12 @@ void machines() {
     throws(TARDIS_NO_SYSTEM, "tardis: no machine is open", [&] { machine->advance(0); });
     throws(TARDIS_NO_SYSTEM, "tardis: no machine is open", [&] { machine->copies(0); });
     expect(moved.in_flight().size() == 1, "a machine that was moved");
+    for (const uint64_t number : {0, 1, 2, 0, 3}) moved.deliver(number);
+    expect(moved.copies(7).number == TARDIS_NO_SUCH && moved.entries(7).empty(), "lines of what isn't there");
+    is_refused = true;
+    throws(TARDIS_NO_MEMORY, "tardis: no memory", [&] { moved.copies(0); });
+    throws(TARDIS_NO_MEMORY, "tardis: no memory", [&] { moved.entries(0); });
+    is_refused = false;
 }
 
 } // namespace

@@ -41,7 +41,7 @@ enum tardis_number {
     TARDIS_BAD_OPENING = 12,   /* the text is no opening; a word of an array has a fault */
     TARDIS_NO_SYSTEM = 16,     /* no machine is open: it never was, or is closed (13 to 15 are of no call) */
     TARDIS_IS_OPEN = 17,       /* a machine is open already, and stays */
-    TARDIS_NO_SUCH = 18        /* there is no such core, message in flight or record, or none at the index */
+    TARDIS_NO_SUCH = 18        /* there is no such core, bank, message in flight or record, or none at the index */
 };
 
 /* The options of a run. Those named flags are set by any number but 0. */
@@ -143,7 +143,10 @@ struct tardis_lack {
 };
 
 /* A machine that the caller drives. Begin with one of all zeros, as `struct tardis_system system = {0}`, open it, and
-   end it with tardis_system_close. What it holds is the library's: don't change it, and don't use a copy of it. */
+   end it with tardis_system_close. What it holds is the library's: don't change it, and don't use a copy of it.
+
+   The seats of docs/SEATS.md, by which several threads drive one machine, have no form in C: that each seat is one
+   thread's, and all seats one machine's, is a rule that only Rattle can check. Threads may each have a machine. */
 struct tardis_system {
     void *machine;
     uint64_t is_open;
@@ -224,7 +227,7 @@ struct tardis_message {
 /* A core's open operation. */
 struct tardis_open {
     uint64_t state; /* 0 there is none, 1 there is one, 2 there is one whose request is out */
-    struct tardis_operation operation;
+    struct tardis_operation operation; /* else zeros */
 };
 
 /* What is to be evicted. */

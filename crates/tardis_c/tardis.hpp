@@ -416,7 +416,7 @@ class Machine {
         const auto place = look<tardis_place>(tardis_system_victim, core, address / line_bytes);
         return place && place->is_there ? std::optional(place->line * line_bytes) : std::nullopt;
     }
-    // The bank and the line to evict so that a message, which was held, finds room; none if it needs none.
+    // The bank and the line to evict so that a message, a request that was held, finds room; none if that is of no use.
     std::optional<std::pair<unsigned, uint64_t>> room(uint64_t number) const {
         const auto place = look<tardis_place>(tardis_system_make_room, number);
         if (!place || !place->is_there) return std::nullopt;

@@ -1,5 +1,5 @@
 """Where the proved library, program and player of events are, and where the second program is."""
-import ctypes.util
+import ctypes
 import functools
 import os
 import shutil
@@ -27,7 +27,7 @@ def named_by(variable: str) -> str | None:
     name = os.environ[variable]
     if name and not Path(name).exists():
         raise FileNotFoundError(f"{variable} names {name}, which isn't there")
-    return name or None
+    return os.path.abspath(name) if name else None  # a name without a slash would be looked for elsewhere
 
 
 def first(*paths: str | Path | None) -> str | None:
@@ -36,10 +36,15 @@ def first(*paths: str | Path | None) -> str | None:
 
 
 def library() -> str | None:
-    """The shared library: TARDIS_LIBRARY, or the one that the system finds."""
+    """The shared library: TARDIS_LIBRARY, or the one that the loader finds by the name of its minor version."""
     if "TARDIS_LIBRARY" in os.environ:
         return named_by("TARDIS_LIBRARY")
-    return ctypes.util.find_library("tardis")
+    name = f"libtardis.so.{version.VERSION.rpartition('.')[0]}"
+    try:
+        ctypes.CDLL(name)  # ctypes.util.find_library would ask ld and objdump, which needn't be there
+    except OSError:
+        return None
+    return name
 
 
 def player() -> str | None:

@@ -34,7 +34,8 @@ def loaded() -> Any:
 
 @functools.cache
 def calls_of_systems() -> dict[str, Any]:
-    """The library's calls of machines, by their names. Each takes microseconds, and keeps the interpreter's lock."""
+    """The library's calls of machines, by their names. Each keeps the interpreter's lock, for microseconds; `open`,
+    for a microsecond a word that opens."""
     return structures.declared(ctypes.PyDLL(loaded()._name), structures.CALLS_OF_SYSTEMS, "tardis_c_system_")
 
 

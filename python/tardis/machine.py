@@ -5,7 +5,7 @@ from typing import Any
 
 from tardis import library
 from tardis.events import Answer, Driver, Message, Totals
-from tardis.history import History, byte_address, operation, ranged
+from tardis.history import RECORD, History, byte_address, operation, ranged
 from tardis.options import MOST, OF_MACHINE, given_options, within
 from tardis.player import Second
 from tardis.reports import Record, Records
@@ -36,10 +36,9 @@ class Machine:
 
         Raises BadConfiguration, ValueError or NoMemory."""
         built = given_options("Machine", OF_MACHINE, options, "cores", "memory")
-        within("cores", cores, 1, 64)
+        cores = within("cores", cores, 1, 64)
         self._line_bytes = 8 * built.line_words
         self._checked = History(memory)
-        self._records = 0  # that are in the history
         self.is_proved = library.loaded() is not None
         self._driver: Driver
         if self.is_proved:
@@ -54,43 +53,43 @@ class Machine:
         return [make() for make in [self._event(each) for event in events for each in event.split(";")]]
 
     def _event(self, text: str) -> Callable[[], Answer]:
-        """What makes an event."""
+        """What makes an event. Each of its numbers is in its range."""
         match text.split():
             case ["issue", core, "R", address]:
-                return partial(self.load, number_of(core), address_of(address))
+                return self._issue(number_of(core), "R", address_of(address), None)
             case ["issue", core, "W" | "S" as kind, address, value]:
-                make = self.store if kind == "W" else self.swap
-                return partial(make, number_of(core), address_of(address), number_of(value))
-            case ["attempt", core]:
-                return partial(self.attempt, number_of(core))
-            case ["advance", core]:
-                return partial(self.advance, number_of(core))
+                return self._issue(number_of(core), kind, address_of(address), number_of(value))
+            case ["attempt" | "advance" as name, core]:
+                return partial(self._driver.event, name, seat("core", number_of(core)))
             case ["deliver", message] if message.startswith("m"):
-                return partial(self.deliver, number_of(message[1:]))
+                return partial(self._driver.event, "deliver", ranged("number", number_of(message[1:]), MOST))
             case ["evict", "core" | "bank" as part, number, line]:
-                evict = self.evict_copy if part == "core" else self.evict_entry
                 at = address_of(line) if line.startswith("0x") else self._line_bytes * number_of(line)
-                return partial(evict, number_of(number), at)
+                return partial(self._driver.evict, part, seat(part, number_of(number)), byte_address(at))
         raise ValueError(f"{text!r} is no event")
 
-    def _issue(self, core: int, kind: str, address: int, value: int | None) -> Answer:
-        operation(core, kind, address, value)
-        answer = self._driver.issue(core, kind, address, value)
-        if answer.name == "issued":
-            self._checked.issue(core, kind, address, value)
-        return answer
+    def _issue(self, core: int, kind: str, address: int, value: int | None) -> Callable[[], Answer]:
+        """What issues an operation, whose numbers are in their ranges."""
+        core, _, address, written = operation(core, kind, address, value)
+
+        def issued() -> Answer:
+            answer = self._driver.issue(core, kind, address, None if kind == "R" else written)
+            if answer.name == "issued":
+                self._checked.issue(core, kind, address, None if kind == "R" else written)
+            return answer
+        return issued
 
     def load(self, core: int, address: int) -> Answer:
         """Issues a load: it is attempted later."""
-        return self._issue(core, "R", address, None)
+        return self._issue(core, "R", address, None)()
 
     def store(self, core: int, address: int, value: int) -> Answer:
         """Issues a store."""
-        return self._issue(core, "W", address, value)
+        return self._issue(core, "W", address, value)()
 
     def swap(self, core: int, address: int, value: int) -> Answer:
         """Issues a swap, which stores a value and receives the old one."""
-        return self._issue(core, "S", address, value)
+        return self._issue(core, "S", address, value)()
 
     def attempt(self, core: int) -> Answer:
         """The core attempts its open operation: completed, requested, waiting, idle, or refused (NoRoom: evict
@@ -165,9 +164,8 @@ class Machine:
     def check(self) -> str:
         """The checker's verdict on the records, against what was issued: always legal. Each call goes through all of
         them."""
-        for record in self.records(self._records):
+        for record in self.records(len(self._checked._records) // RECORD.size):
             self._checked.add(record)
-            self._records += 1
         return self._checked.verdict().text
 
     # The machine itself.

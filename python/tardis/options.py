@@ -48,8 +48,9 @@ class Options:
 
     def __post_init__(self) -> None:
         for name, (least, most) in RANGES.items():
-            within(name, getattr(self, name), least, most)
-        if whole("line_words", self.line_words) not in (1, 8):
+            object.__setattr__(self, name, within(name, getattr(self, name), least, most))
+        object.__setattr__(self, "line_words", whole("line_words", self.line_words))
+        if self.line_words not in (1, 8):
             raise BadConfiguration(f"line_words is {self.line_words}: it is 1 or 8")
         for name in ("private_write", "fair"):
             if not isinstance(getattr(self, name), bool):

@@ -23,7 +23,8 @@ def end(process: subprocess.Popen[str]) -> None:
 
 class Player:
     """The player of events, or the second program's where that isn't built. It tells what a `Machine` doesn't: times,
-    copies and entries, whole states, and drives by a schedule. `call("machine cores 2 lease 10")` opens its machine.
+    what copies and entries hold, whole states, and drives by a schedule. `call("machine cores 2 lease 10")` opens its
+    machine.
 
     `is_proved` says whether the proved player answers. Close it, or use it in a `with`. A call that is interrupted ends
     the player, since its answer would be taken for the next call's. So one thread at a time may call it."""

@@ -13,6 +13,7 @@ How many turns a seat may have must not matter: if the threads of a run were all
 script makes it again with a higher one. Where nothing is refused, it also tries how many threads are started, how often
 a waiting worker sleeps, and that two to four workers on one processor need few turns.
 """
+import itertools
 import os
 import tempfile
 from collections import Counter
@@ -245,17 +246,17 @@ def lets_others_run(tester):
 def sleeps_where_due(tester, folder):
     """A core advances in each of its 1,024 turns, 16 in a pass: 64 passes. A seat that waits has one turn in a pass, so
     that its worker makes passes that come to nothing, until it has had 1,024 turns, too. It sleeps after the 128th of
-    them and after each fourth that follows: for 1,024 that is 1 + 224 times. A single worker makes 960: 1 + 208. Of
+    them and after each fourth that follows: for 1,024 that is 1 + 224 times. A single worker never sleeps. Of
     several workers, those that don't have the core make 1,024, with the bank, with another core, or with both; one
     without seats makes none. In the third trace core 0 advances 300 times first, in 301 turns and 19 passes. Its worker
     makes 1,005 more with the bank (1 + 219), and 723 without it (1 + 148)."""
     steps = Path(folder, "advances.trace")
-    for zeros, ones, *all_sleeps in ((2000, 0, 209, 225, 225), (0, 2000, 209, 225, 450), (300, 2000, 209, 220, 374)):
+    for zeros, ones, *all_sleeps in ((2000, 0, 0, 225, 225), (0, 2000, 0, 225, 450), (300, 2000, 0, 220, 374)):
         steps.write_text("trace 2\n" + zeros * "0 A\n" + ones * "1 A\n")
-        for workers, sleeps in enumerate(all_sleeps, 1):
-            ran = tester.run(["trace", *SCHEDULE[:2], "--workers", workers, "--limit", 1024, steps], sleeps=1)
+        for (workers, sleeps), fair in itertools.product(enumerate(all_sleeps, 1), ([], ["--fair"])):
+            ran = tester.run(["trace", *SCHEDULE[:2], *fair, "--workers", workers, "--limit", 1024, steps], sleeps=1)
             good = (ran.status, ran.sleeps) == (1, sleeps)
-            tester.expect(good, f"{zeros} and {ones} advances, {workers} workers: {ran.sleeps} sleeps")
+            tester.expect(good, f"{zeros} and {ones} advances, {workers} workers {fair}: {ran.sleeps} sleeps")
 
 
 def refused_threads(tester):

@@ -64,7 +64,7 @@ pub(crate) fn work<R: Clock, P: Program + Drop, G: Gate>(
             worker.signaler.stop(signals);
             return;
         }
-        if is_due {
+        if is_due && signals.workers > 1 {
             thread::sleep(rt, Duration::from_micros(REST));
         }
     }

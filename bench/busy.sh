@@ -7,12 +7,14 @@ set -euo pipefail
 top=$(cd "$(dirname "$0")/.." && pwd)
 program=${1:-$top/crates/bench_seats/out/bench_seats}
 spinning=${2:-8}
+[ -x "$program" ] || { echo "busy.sh: $program isn't built: rt ci, or rt run in crates/bench_seats, builds it" >&2; exit 1; }
 trap 'kill $(jobs -p) 2>/dev/null || true' EXIT
 
 # runs WORDS..: the seconds of five runs, in rising order
 runs() {
     for _ in 1 2 3 4 5; do
-        nanos=$(timeout 60 "$program" time seats "$@" | sed 's/.* in \([0-9]*\) ns/\1/') || nanos=60000000000
+        nanos=$(timeout 60 "$program" time seats "$@" | sed 's/.* in \([0-9]*\) ns/\1/') ||
+            { [ $? -eq 124 ] && nanos=60000000000 || exit 1; }
         echo "$nanos" | awk '{ printf "%.2f\n", $1 / 1e9 }'
     done | sort -n | tr '\n' ' '
 }

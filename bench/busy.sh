@@ -7,7 +7,7 @@ set -euo pipefail
 top=$(cd "$(dirname "$0")/.." && pwd)
 program=${1:-$top/crates/bench_seats/out/bench_seats}
 spinning=${2:-8}
-[ -x "$program" ] || { echo "busy.sh: $program isn't built: rt ci, or rt run in crates/bench_seats, builds it" >&2; exit 1; }
+[ -x "$program" ] || { echo "busy.sh: $program isn't built: rt run in crates/bench_seats builds it" >&2; exit 1; }
 trap 'kill $(jobs -p) 2>/dev/null || true' EXIT
 
 # runs WORDS..: the seconds of five runs, in rising order

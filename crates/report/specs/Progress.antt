@@ -34,8 +34,8 @@ abbrev pub times_told : Option ℕ → List Machine → ℕ
 times_told every [] = 0
 times_told every (m ∷ earlier) = times_passed every (length m.records)
 
--- Each is one that the run of these records had before: a run of the first steps leads to it, and its records are the
--- first ones. By then so many million operations were completed once more than by the line before, at least.
+-- A run of the first steps that the source had leads to each, and its records are the first ones of these. By then so
+-- many million operations were completed once more than by the line before, at least.
 abbrev pub AreTold : StreamOptions → Option (List ℕ) → List Record → List Machine → Type 0
 AreTold options known records [] = Unit {0}
 AreTold options known records (m ∷ earlier) =

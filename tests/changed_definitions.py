@@ -30,6 +30,7 @@ import sys
 import tempfile
 from collections import Counter
 from concurrent.futures import ThreadPoolExecutor
+from itertools import islice
 from pathlib import Path
 from queue import SimpleQueue
 
@@ -40,8 +41,9 @@ from tests.rooms import committed  # noqa: E402
 
 PARTS = ["reference", "tests", "tools", "maintain", "examples", "docs/TRUST.md", "crates/play_events/data",
          "crates/play_seats/data", "crates/tardis/data"]
-LONG = re.compile(r"limits\.events|full\.seats|\.seeds|texts\.py (?:sizes|limits)|trace_counts\.py by hand")
+LONG = re.compile(r"limits|full\.seats|\.seeds|SEED-|THOUSAND|places|trace_counts\.py by hand")
 SHORT = re.compile(r"(?:leases|placement|evictions|refusals)\.events|closing\.seats|\.table|(?:ends|reports)\.py by|texts\.py faults")
+FEW = 3  # texts of a kind that refuse are enough, without --all
 PATIENCE = 60  # seconds of processor time for a text
 
 
@@ -121,14 +123,16 @@ def of_scripts():
         sys.stdout = sys.__stdout__
         return tester.wrong > 0
 
-    for name in ("faults", "ends", "cuts", "places", "sizes", "limits"):
+    for name in ("faults", "ends", "cuts", "places", "limits"):
         yield f"texts.py {name}", lambda name=name: differs(texts.PARTS[name])
     yield "words.table", lambda: differs(of_command_lines)
     yield "ends.py by hand", lambda: differs(of_lists)
-    for script, part in (("trace_counts.py by hand", trace_counts.by_hand), ("trace_counts.py rows",
-                         trace_counts.in_rows), ("json_reports.py by hand", json_reports.by_hand)):
-        with tempfile.TemporaryDirectory() as folder:
-            yield script, lambda part=part, folder=folder: differs(part, folder)
+    with tempfile.TemporaryDirectory() as folder:
+        for name, text in json_reports.FILES.items():
+            Path(folder, name).write_text(text, encoding="ascii")
+        yield "json_reports.py by hand", lambda: differs(json_reports.by_hand, folder)
+        yield "trace_counts.py by hand", lambda: differs(trace_counts.by_hand, folder)
+        yield "trace_counts.py rows", lambda: differs(trace_counts.in_rows, folder)
 
 
 def said_by(text):
@@ -147,8 +151,9 @@ def ended(*_):
     raise TimeoutError
 
 
-def ask(module, asked):
-    """Asks the texts whose names match. Those of the players don't see a module that they don't load."""
+def ask(module, asked, most):
+    """Asks the texts whose names match, up to so many of a kind that refuse. Those of the players don't see a module that
+    they don't load."""
     signal.signal(signal.SIGVTALRM, ended)
     os.chdir(TOP)
     texts = list(of_players())
@@ -157,10 +162,10 @@ def ask(module, asked):
     from reference import oracle
     oracle.test_generator = lambda: None  # the second program's own test
     refusing = {}
-    for some in (texts, of_examples(), of_scripts()):
-        for name, text in some:
-            if asked(name) and (said := said_by(text)):
-                refusing[name] = said
+    for kind, some in (("players", texts), ("examples", of_examples()), ("scripts", of_scripts())):
+        found = ((name, said_by(text)) for name, text in some if asked(name))
+        if some := list(islice(((name, said) for name, said in found if said), most)):
+            refusing[kind] = some
     print(json.dumps(refusing))
 
 
@@ -175,22 +180,23 @@ class Copy:
         for name in ("changed_definitions.py", "changed_rules.py"):
             shutil.copy(TOP / "tests" / name, self.top / "tests")
 
-    def asked(self, file, which):
+    def asked(self, file, which, most=FEW):
         module = "reference." + Path(file).stem if file else ""
         words = [sys.executable, "-O", "-B", str(self.top / "tests/changed_definitions.py"), "--ask", which, module]
-        done = subprocess.run(words, capture_output=True, text=True, check=False)
+        done = subprocess.run([*words, str(most)], capture_output=True, text=True, check=False)
         if done.returncode:
-            sys.exit(f"{file}: {done.stderr[-2000:]}")
+            raise RuntimeError(f"{file}: {done.stderr[-2000:]}")
         return json.loads(done.stdout)
 
     def refusing(self, row, has_all):
-        """The texts that refuse a row's change; the long ones are asked if no other does."""
+        """The texts that refuse a row's change, by kind; the long ones are asked if no other does."""
         path = self.top / row.file
         kept = path.read_text(encoding="utf-8")
         path.write_text(kept.replace(row.old, row.new), encoding="utf-8")
         try:
-            found = self.asked(row.file, "usual")
-            return found | (self.asked(row.file, "long") if has_all or not found else {})
+            if has_all:
+                return self.asked(row.file, "all", sys.maxsize)
+            return self.asked(row.file, "usual") or self.asked(row.file, "long", 1)
         finally:
             path.write_text(kept, encoding="utf-8")
 
@@ -214,7 +220,7 @@ def faults():
         if (TOP / row.file).read_text(encoding="utf-8").count(row.old) != 1 or names[row.definition, row.new] > 1:
             yield f"{row.definition}: its old text doesn't stand once in {row.file}"
         files = (TOP / "crates" / file for file in groups.get(row.group, ()) if file.startswith(crate + "/"))
-        if not any(re.search(rf"^(?:abbrev pub|pub record|pub data) {re.escape(name)}(?![\w'])", file.read_text("utf-8"), re.M)
+        if not any(re.search(rf"^ *(?:abbrev pub|pub record|pub data) {re.escape(name)}(?![\w'])", file.read_text("utf-8"), re.M)
                    for file in files):
             yield f"{row.definition}: not in a file of the group {row.group}"
     yield from (f"no row of {group}" for group in groups if not {row.group for row in ROWS} | set(UNSTATED) >= {group})
@@ -237,32 +243,38 @@ def tried(rows, has_all, jobs):
 
 
 def words_of(refusing):
-    said = [name + " (fails)" * (how == 2) for name, how in refusing.items()]
-    return f"{len(said)} texts: {', '.join(said[:6])}" + ", .." * (len(said) > 6) if said else "by nothing"
+    return "; ".join(f"{kind}: " + ", ".join(name + " (fails)" * (how == 2) for name, how in said)
+                     for kind, said in refusing.items()) or "nothing"
 
 
 def main():
     parser = argparse.ArgumentParser(description=__doc__, formatter_class=argparse.RawDescriptionHelpFormatter)
     parser.add_argument("--only", default="", help="changes of definitions that match alone")
-    parser.add_argument("--all", action="store_true", help="ask the long texts always")
+    parser.add_argument("--all", action="store_true", help="ask all texts, also once some refuse")
     parser.add_argument("--jobs", type=int, default=2, metavar="N", help="changes at once (2)")
     parser.add_argument("--self-test", action="store_true")
-    parser.add_argument("--ask", nargs=2, help=argparse.SUPPRESS)
+    parser.add_argument("--ask", nargs=3, help=argparse.SUPPRESS)
     options = parser.parse_args()
     if options.ask:
-        which = {"short": SHORT.search, "long": LONG.search, "usual": lambda name: not LONG.search(name)}
-        return ask(options.ask[1], which[options.ask[0]])
+        which = {"short": SHORT.search, "long": LONG.search, "usual": lambda name: not LONG.search(name),
+                 "all": lambda name: True}
+        return ask(options.ask[1], which[options.ask[0]], int(options.ask[2]))
     with tempfile.TemporaryDirectory() as folder:
-        wrong = [*faults(), *Copy(f"{folder}/copy").asked("", "short" if options.self_test else "usual")]
+        unchanged = Copy(f"{folder}/copy").asked("", "short" if options.self_test else "all" if options.all else "usual")
+    wrong = [*faults(), *([f"without a change: {words_of(unchanged)}"] if unchanged else [])]
     if wrong or options.self_test:
         print("\n".join(wrong) or f"{len(ROWS)} changes can be made, and without one nothing is refused")
         return int(bool(wrong))
-    made, refused = Counter(), Counter()
-    for row, refusing in tried([row for row in ROWS if re.search(options.only, row.definition)], options.all, options.jobs):
+    made, refused, kinds = Counter(), Counter(), Counter()
+    rows = [row for row in ROWS if re.search(options.only, row.definition)]
+    for row, refusing in tried(rows, options.all, options.jobs):
         print(f"{row.definition}: {row.change}: refused by {words_of(refusing)}", flush=True)
         made[row.group] += 1
         refused[row.group] += bool(refusing)
-    print(*(f"{group}: {made[group]} changes, {refused[group]} refused" for group in made), sep="\n")
+        kinds.update((row.group, kind) for kind in refusing)
+    for group in made:
+        of_kinds = ", ".join(f"{kinds[group, kind]} by {kind}" for kind in ("players", "examples", "scripts"))
+        print(f"{group}: {made[group]} changes, {refused[group]} refused: {of_kinds}")
     return 0
 
 

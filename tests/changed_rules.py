@@ -1,5 +1,5 @@
-"""Changed rules for tests/changed_definitions.py: one small change of a definition that docs/TRUST.md lists, in the file
-of reference/ that states the same rule.
+"""Changed rules for tests/changed_definitions.py: one small change of a definition that docs/TRUST.md lists, in the
+file of reference/ that states the same rule.
 
 Going down a group of TRUST file by file, each file that reference/ states gives the first definition of it that stands
 there in a place of its own. Long groups give every other file, short ones further definitions. The ten changes of
@@ -93,8 +93,8 @@ ROWS = rows_of("machine", [
     # Lists of events and look-ups.
     (LISTS, "copies of interleaving_core", "return sorted(copy.line for copies in self.cores[number]",
      "return list(copy.line for copies in self.cores[number]", "the lines in their order of use"),
-    (LISTS, "is_request of interleaving_core", 'm.kind not in ("ShReq", "ExReq") or len', 'm.kind not in ("ShReq",) or len',
-     "no room for a request to own"),
+    (LISTS, "is_request of interleaving_core", 'm.kind not in ("ShReq", "ExReq") or len',
+     'm.kind not in ("ShReq",) or len', "no room for a request to own"),
     (TABLE, "attempt_unserved of core_pts", 'if core.out:\n            return "Waiting"',
      'if core.out:\n            return "Idle"', "Idle for Waiting"),
     (LISTS, "victim_for of private_cache", "copies[0].line if not copy", "copies[-1].line if not copy",
@@ -154,7 +154,8 @@ ROWS = rows_of("machine", [
 ]) + rows_of("litmus_faults", [
     (LITMUS, "is_blank of litmus_lexer", r'BLANKS = " \t\r"', r'BLANKS = " \t"', "a carriage return isn't blank"),
     (LITMUS, "name_in of litmus_lexer", "{1,128}", "{1,127}", "names of at most 127 bytes"),
-    (LITMUS, "is_location of litmus_lexer", "[A-Za-z0-9_]{0,31}", "[A-Za-z0-9_]{0,30}", "locations of at most 31 bytes"),
+    (LITMUS, "is_location of litmus_lexer", "[A-Za-z0-9_]{0,31}", "[A-Za-z0-9_]{0,30}",
+     "locations of at most 31 bytes"),
     (LITMUS, "register_of of litmus_lexer", "|3[01])", "|3[0])", "no register x31"),
     (LITMUS, "heading of litmus_parser", 'if cell.strip() != f"P{at}":', 'if cell.strip()[:1] != "P":',
      "any number behind P"),

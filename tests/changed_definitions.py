@@ -36,7 +36,7 @@ from tests.rooms import committed  # noqa: E402
 
 PARTS = ["reference", "tests", "tools", "maintain", "examples", "docs/TRUST.md", "crates/play_events/data",
          "crates/play_seats/data", "crates/tardis/data"]
-FEW = 3  # texts of a kind that refuse are enough, without --all
+FEW = ("--most=3", "--first")  # texts that refuse are enough, and of one kind, without --all
 
 
 class Copy:
@@ -47,10 +47,10 @@ class Copy:
         self.top.mkdir()
         subprocess.run(["tar", "-x", "-C", folder], input=committed("archive", "HEAD", *PARTS), check=True)
 
-    def asked(self, which, file="", most=FEW):
+    def asked(self, which, file="", *more):
         words = [sys.executable, "-O", "-B", str(self.top / "tests/committed_texts.py"), f"--which={which}",
-                 f"--most={most}", f"--changed={file.replace('/', '.').removesuffix('.py')}"]
-        done = subprocess.run(words, capture_output=True, text=True, check=False)
+                 f"--changed={file.replace('/', '.').removesuffix('.py')}", *more]
+        done = subprocess.run(words, capture_output=True, text=True, check=False, start_new_session=True)
         if done.returncode:
             raise RuntimeError(f"{file}: {done.stderr[-2000:]}")
         return json.loads(done.stdout)
@@ -62,8 +62,8 @@ class Copy:
         path.write_text(kept.replace(row.old, row.new), encoding="utf-8")
         try:
             if has_all:
-                return self.asked("all", row.file, sys.maxsize)
-            return self.asked("usual", row.file) or self.asked("long", row.file, 1)
+                return self.asked("all", row.file)
+            return self.asked("usual", row.file, *FEW) or self.asked("long", row.file, "--most=1", "--first")
         finally:
             path.write_text(kept, encoding="utf-8")
 
@@ -135,7 +135,7 @@ def main():
         refused[row.group] += bool(refusing)
         kinds.update((row.group, kind) for kind in refusing)
     for group in made:
-        of_kinds = ", ".join(f"{kinds[group, kind]} by {kind}" for kind in ("players", "examples", "scripts"))
+        of_kinds = ", ".join(f"{kinds[group, kind]} by {kind}" for kind in ("players", "tables", "examples"))
         print(f"{group}: {made[group]} changes, {refused[group]} refused: {of_kinds}")
     return 0
 

@@ -1,6 +1,6 @@
 #!/usr/bin/env python3
 """Asks the texts whose expected outputs are committed what the second program says of them:
-tests/committed_texts.py [--which short|usual|long|all] [--most N] [--changed MODULE]
+tests/committed_texts.py [--which short|usual|long|all] [--most N] [--first] [--changed MODULE]
 
 They are the texts of both players; the reports, records and tables of examples/; tables of faults and of ends, and what
 scripts have by hand. Printed are the texts with which the second program differs, by kind, as JSON: 1 behind a name for
@@ -53,7 +53,6 @@ def of_examples():
     for path in sorted((TOP / "examples").glob("*/*.*")):
         if path.suffix in ways and path.parent.name in ("litmus", "settings", "traces"):
             yield path.name, lambda path=path: differs(path)
-    yield "examples/*.table", lambda: any(expected.differing_rows())
 
 
 def second_tester():
@@ -96,7 +95,7 @@ def of_lists(tester):
 
 def of_scripts():
     """Each part of a script with expected outputs of its own, and whether the second program's differ."""
-    from tests import json_reports, texts, trace_counts
+    from tests import expected, json_reports, texts, trace_counts
 
     def differs(part, *folder):
         tester = second_tester()
@@ -105,6 +104,7 @@ def of_scripts():
         sys.stdout = sys.__stdout__
         return tester.wrong > 0
 
+    yield "examples/*.table", lambda: any(expected.differing_rows())
     for name in ("faults", "ends", "cuts", "places", "limits"):
         yield f"texts.py {name}", lambda name=name: differs(texts.PARTS[name])
     yield "words.table", lambda: differs(of_command_lines)
@@ -137,6 +137,7 @@ def main():
     parser = argparse.ArgumentParser(description=__doc__, formatter_class=argparse.RawDescriptionHelpFormatter)
     parser.add_argument("--which", choices=WHICH, default="all")
     parser.add_argument("--most", type=int, default=sys.maxsize, metavar="N")
+    parser.add_argument("--first", action="store_true", help="no further kind behind one that refuses")
     parser.add_argument("--changed", default="", metavar="MODULE")
     options = parser.parse_args()
     signal.signal(signal.SIGVTALRM, ended)
@@ -147,7 +148,9 @@ def main():
     from reference import oracle
     oracle.test_generator = lambda: None  # the second program's own test
     refusing = {}
-    for kind, texts in (("players", players), ("examples", of_examples()), ("scripts", of_scripts())):
+    for kind, texts in (("players", players), ("tables", of_scripts()), ("examples", of_examples())):
+        if refusing and options.first:
+            break
         said = ((name, said_by(text)) for name, text in texts if WHICH[options.which](name))
         if found := list(islice(((name, how) for name, how in said if how), options.most)):
             refusing[kind] = found

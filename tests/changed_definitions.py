@@ -10,9 +10,10 @@ proved program with the same outputs. So the figure tells how many of the change
 code been changed alike. Only the second program was changed for it, and no proof was asked.
 
 What compares the two programs with each other doesn't count, nor what the second program tests by itself: its
-assertions are off. A text also refuses where the second program ends by an error, or needs a minute for it. The texts
-that take long (LONG) are asked only where no other refuses; with --all, always. Other scripts of the gate may refuse
-more: pages, threads and the C library aren't asked.
+assertions are off. A text also refuses where the second program ends by an error, or takes a minute. Asked are first
+the texts of the players, then tables, then examples, up to three that refuse; what takes long only if none of them
+does. With --all each text is asked. Other scripts of the gate may refuse more: pages, runs by several threads and the C
+library aren't asked.
 
 Printed are each change with the texts that refuse it, and at the end for each group of docs/TRUST.md how many changes
 there were, and how many were refused. --self-test: the short texts refuse nothing without a change, each row's old text

@@ -111,8 +111,8 @@ ROWS = rows_of("machine", [
     (THEOREM, "carries_ownership of network", '"FlushRep", "WbRep")', '"FlushRep")', "a write-back carries none"),
     (THEOREM, "owners of machine_theorem", 'for copy in copies if copy.state == "Exclusive")', "for copy in copies)",
      "every copy is an owner's"),
-    (THEOREM, "coherent of machine_theorem", "write = record.time, record.number, record.value",
-     "write = record.number, record.time, record.value", "the last write by number"),
+    (THEOREM, "coherent of machine_theorem", "self.last else self.opening.get(word, 0)", "self.last else 0",
+     "a word that no one wrote is 0"),
     (LISTS, "free_copies of core_pts", "line for line in copies if line != self.machine.line_at(core)",
      "line for line in copies if line > (self.machine.line_at(core) or -1)", "only lines above the open one"),
 ]) + rows_of("order", [
@@ -133,9 +133,8 @@ ROWS = rows_of("machine", [
     (CHECKER, "NumberedOnce of physiological_order", "for number in range(len(records)):\n        if",
      "for number in range(1, len(records)):\n        if", "record 0 may be missing"),
     (CHECKER, "words_end of physiological_order", "    memory = dict(opening)\n    for record in arrange(records):\n"
-     "        flat_step(memory, record)\n    return memory", "    memory = dict(opening)\n    for record in "
-     "sorted(records, key=lambda record: record.number):\n        flat_step(memory, record)\n    return memory",
-     "in the order of numbers"),
+     "        flat_step(memory, record)\n    return memory", "    memory = {}\n    for record in arrange(records):\n"
+     "        flat_step(memory, record)\n    return memory", "without the opening memory"),
     (TRACES, "HasRecord of report", "place, core):\n    return f\"no record of operation {place} of",
      "core, place):\n    return f\"no record of operation {place} of", "place and core exchanged"),
     (CALLS, "HaveAll of tardis_c", "if done[core] != len(operations)), None)",

@@ -41,17 +41,17 @@ def of_examples():
     """Each report and each list of records, and whether the second program writes another one."""
     from reference import oracle
     from tests import expected
-    ways = {".report": [], ".also": [], ".seeds": expected.SEEDS, ".records": ["--records"]}
 
     def differs(path):
         source = next(filter(Path.exists, map(path.with_suffix, (".litmus", ".trace"))))
         name = b"also" if path.suffix == ".also" else b"options"
-        given = [] if path.suffix == ".seeds" else expected.options_of(source, name)
-        words = [source.suffix.replace(".", ""), *ways[path.suffix], *given, str(source)]
+        given = expected.SEEDS if path.suffix == ".seeds" else expected.options_of(source, name)
+        has_records = path.suffix == ".records" or path.suffix == ".also" and source.suffix == ".trace"
+        words = [source.suffix.replace(".", ""), *["--records"] * has_records, *given, str(source)]
         return oracle.run(oracle.words().parse_args(words))[0] != path.read_text()
 
     for path in sorted((TOP / "examples").glob("*/*.*")):
-        if path.suffix in ways and path.parent.name in ("litmus", "settings", "traces"):
+        if path.suffix in (".report", ".also", ".seeds", ".records") and path.parent.name in ("litmus", "settings", "traces"):
             yield path.name, lambda path=path: differs(path)
 
 

@@ -22,7 +22,7 @@ from pathlib import Path
 TOP = Path(__file__).resolve().parent.parent
 sys.path.insert(0, str(TOP))
 
-LONG = re.compile(r"limits|full\.seats|\.seeds|SEED-|THOUSAND|places|trace_counts\.py by hand")
+LONG = re.compile(r"limits|full\.seats|\.seeds|SEED-|THOUSAND|places")
 SHORT = re.compile(r"(?:leases|placement|evictions|refusals)\.events|closing\.seats|\.table|(?:ends|reports)\.py by|"
                    r"texts\.py faults")
 WHICH = {"short": SHORT.search, "long": LONG.search, "usual": lambda name: not LONG.search(name),
@@ -110,6 +110,8 @@ def of_scripts():
         yield f"texts.py {name}", lambda name=name: differs(texts.PARTS[name])
     yield "words.table", lambda: differs(of_command_lines)
     yield "ends.py by hand", lambda: differs(of_lists)
+    for name in ("1,000,000 loads", "66,000 requests"):  # minutes, in Python
+        del trace_counts.SEEN[name]
     with tempfile.TemporaryDirectory() as folder:
         for name, text in json_reports.FILES.items():
             Path(folder, name).write_text(text, encoding="ascii")

@@ -8,6 +8,8 @@ function, and others of the same definitions took their places:
 
 - `coherent`, `words_end`: the last write of a word by its number, not by its time. On a machine these are the same.
 - `set_of` of private_cache: the set of the line behind. That only names the sets otherwise.
+- `item_or_end`: a comma ends an item. The next item then begins by a comma, which is the same fault in the same line.
+- `tried` of mailboxes: a completion counts two. The second program reads that count nowhere.
 - `after_held`: the last of the held messages that is the served one. There is one.
 
 Of calls from C only numbers of refusals and what records lack are stated. Of laws nothing is: they run nowhere.
@@ -167,7 +169,7 @@ ROWS = rows_of("machine", [
      "any number behind P"),
     (LITMUS, "value of litmus_parser", "2 ** 31 - 1, 2047", "2 ** 31, 2047", "2^31 is a value"),
     (LITMUS, "item_or_end of litmus_parser", 'token = self.expect("[;}]", BAD_INITIAL)',
-     'token = self.expect("[;,}]", BAD_INITIAL)', "a comma ends an item"),
+     'token = self.expect("[;]", BAD_INITIAL)', "the last item needs a semicolon"),
     (LITMUS, "mnemonic_of of litmus_parser", r"(?:\.aq|\.rl)?", r"(?:\.aq)?", "no .rl"),
     (LITMUS, "factor of litmus_parser", "256, 64\n", "256, 63\n", "63 open parentheses"),
     (READINGS, "FaultBefore of litmus_reader", "        if len(self.locations) > LOCATIONS:\n            self.fault(",
@@ -189,8 +191,7 @@ ROWS = rows_of("machine", [
      "the next look begins at the same slot"),
     (THREADS, "is_request of mailboxes", 'if m.kind in ("ShReq", "ExReq"))', 'if m.kind in ("ShReq",))',
      "no room for a request to own"),
-    (THREADS, "tried of mailboxes", "self.seats[number].done += 1", "self.seats[number].done += 2",
-     "a completion counts two"),
+    (THREADS, "issue_answer of mailboxes", 'raise Refusal("Busy")', 'raise Refusal("TooMany")', "TooMany for Busy"),
     (THREADS, "link_to of mailboxes", "cores * banks + source * cores + target",
      "cores * banks + target * cores + source", "a bank's links by cores first"),
     (THREADS, "lacks_place of inbox", "if len(self.now.outbox) >= PLACES:", "if len(self.now.outbox) >= PLACES - 1:",

@@ -10,6 +10,7 @@ function, and others of the same definitions took their places:
 - `set_of` of private_cache: the set of the line behind. That only names the sets otherwise.
 - `item_or_end`: a comma ends an item. The next item then begins by a comma, which is the same fault in the same line.
 - `tried` of mailboxes: a completion counts two. The second program reads that count nowhere.
+- `Left` of closed_machine: held messages don't count as owners. No seat holds a message that carries ownership.
 - `after_held`: the last of the held messages that is the served one. There is one.
 
 Of calls from C only numbers of refusals and what records lack are stated. Of laws nothing is: they run nowhere.
@@ -205,8 +206,6 @@ ROWS = rows_of("machine", [
     (THREADS, "incoming of mailboxes", "[core * banks + seat - cores for core in range(cores)]",
      "[core * banks + seat - cores for core in reversed(range(cores))]", "a bank looks at the last core first"),
 ]) + rows_of("seat_texts", [
-    (SEATS, "Left of closed_machine", "yield from seat.outbox + seat.held + [seat.hand]",
-     "yield from seat.outbox + [seat.hand]", "held messages are lost"),
     (SEATS, "AreCountsOf of closed_machine", "kind: sum(of[kind] for of in counts)",
      "kind: max(of[kind] for of in counts)", "the greatest for the sum"),
     (SEATS, "AllDrawn of drawn_numbers", "return told.joined(self.drawn[drawer])",

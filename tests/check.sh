@@ -59,13 +59,14 @@ full() {
     fi
 }
 
-# The options of an example's text: words, parted by spaces; and those with which a test of the catalogue is run again.
+# The options of an example's text: words, parted by spaces; and those with which a test of the catalogue, or a trace,
+# is run again.
 options_of() {
     sed -n 's/^\(# \)\{0,1\}options=//p' "$1"
 }
 
 other_options_of() {
-    sed -n 's/^also=//p' "$1"
+    sed -n 's/^\(# \)\{0,1\}also=//p' "$1"
 }
 
 is_seeded() {
@@ -495,7 +496,7 @@ For more information, try '--help'." litmus --limit 0 "$examples/litmus/SB.litmu
     full "full device" litmus "$examples/litmus/SB.litmus"
 }
 
-# A trace's report, its records, and what is said of these.
+# A trace's report, its records, and what is said of these; and its records with other options, if it names some.
 trace() {
     report=${1%.trace}.report records=${1%.trace}.records
     status=1
@@ -505,6 +506,9 @@ trace() {
     # shellcheck disable=SC2046
     told "${1##*/} --records" "$status" "$records" /dev/null trace --records $(options_of "$1") "$1"
     told "${1##*/} and its records" 0 "$work/legal" /dev/null check "$1" "$records"
+    also=$(other_options_of "$1")
+    # shellcheck disable=SC2086
+    [ -z "$also" ] || told "${1##*/} $also" 0 "${1%.trace}.also" /dev/null trace --records $also "$1"
 }
 
 traces() {

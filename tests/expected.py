@@ -2,15 +2,15 @@
 """Writes what the examples must print by reference/oracle.py, or says what differs from it.
 
     tests/expected.py            writes the .report of each litmus test and trace, the .seeds and the .also of each
-                                    test of the catalogue (litmus/), and the .records of each trace
+                                    test of the catalogue (litmus/), and the .records and .also of each trace
     tests/expected.py --check    says which of these files differ, and fails if one does
 
 The options of an example are in its text: in a litmus test in the header line `options=..`, in a trace in the comment
 line `# options= ..`. A .seeds is the report on the seeds 0 to 999. A .also is there for a test with a header line
-`also=..`: it is the report with these options. Every end state of the catalogue must be one that plain enumeration
-finds (sequential.py). Each trace's records must be legal. The tables (bad/traces.table, bad/records.table,
-bad/openings.table, lines.table, verdicts.table, complete.table, opening.table) are written by hand: the script also
-reports a row that the oracle answers otherwise.
+`also=..`: it is the report with these options. For a trace with a comment line `# also= ..` it has the records. Every
+end state of the catalogue must be one that plain enumeration finds (sequential.py). Each trace's records must be legal.
+The tables (bad/traces.table, bad/records.table, bad/openings.table, lines.table, verdicts.table, complete.table,
+opening.table) are written by hand: the script also reports a row that the oracle answers otherwise.
 """
 import re
 import sys
@@ -47,6 +47,8 @@ def wanted():
     for path in sorted(FOLDER.glob("traces/*.trace")):
         yield path.with_suffix(".report"), text("trace", *options_of(path), path)
         yield path.with_suffix(".records"), text("trace", "--records", *options_of(path), path)
+        if options_of(path, b"also"):
+            yield path.with_suffix(".also"), text("trace", "--records", *options_of(path, b"also"), path)
 
 
 def rows(name):

@@ -9,7 +9,7 @@ beginning of the records of the lines before it, and no more than the second pro
 
 Pipes are tried that stay open or are long, and readers that leave early. With `--progress` lines on standard error tell
 how far a run of 2,000,000 operations is; all else must be as without. The parts are examples, faults, cut_texts,
-cores, odd_texts, pipes, memory, waits, progress, long, which is a text of 20,000,000 lines, and at_random.
+cores, odd_texts, pipes, memory, waits, long, which is a text of 20,000,000 lines, progress, and at_random.
 --traces and --seed say how many traces are drawn, and which. --self-test spoils each answer: first the status, then the
 output, then standard error; and says which comparison doesn't notice. The last line is `N tried, M wrong`.
 """
@@ -507,8 +507,9 @@ def long(tester, folder):
     tester.covers(peak < 64, f"{count} lines take {peak:.0f} MB")
 
 
-PARTS = {part.__name__: part for part in (examples, faults, cut_texts, cores, odd_texts, pipes, memory, waits, progress,
-                                          long, at_random)}
+# What measures peaks stands before what takes much here: a process's peak counts what its parent had when it began.
+PARTS = {part.__name__: part for part in (examples, faults, cut_texts, cores, odd_texts, pipes, memory, waits, long,
+                                          progress, at_random)}
 
 
 def tried(tester, parts):

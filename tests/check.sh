@@ -6,8 +6,8 @@
 #
 # The parts that are run, each a function below; PARTS names others.
 case ${1-} in -h | --help) exec sed -n '2,/^[^#]/s/^# \{0,1\}//p' "$0" ;; esac
-parts=${PARTS:-litmus catalogue settings refusals seeds workers threads traces seeded_traces lines verdicts \
-complete opening trace_faults trace_refusals}
+parts=${PARTS:-litmus catalogue settings refusals seeds workers threads traces seeded_traces other_traces lines \
+verdicts complete opening trace_faults trace_refusals}
 
 top=$(CDPATH='' cd -- "$(dirname -- "$0")/.." && pwd) || exit 1
 tardis=${1:-$top/tardis}
@@ -496,7 +496,7 @@ For more information, try '--help'." litmus --limit 0 "$examples/litmus/SB.litmu
     full "full device" litmus "$examples/litmus/SB.litmus"
 }
 
-# A trace's report, its records, and what is said of these; and its records with other options, if it names some.
+# A trace's report, its records, and what is said of these.
 trace() {
     report=${1%.trace}.report records=${1%.trace}.records
     status=1
@@ -506,9 +506,6 @@ trace() {
     # shellcheck disable=SC2046
     told "${1##*/} --records" "$status" "$records" /dev/null trace --records $(options_of "$1") "$1"
     told "${1##*/} and its records" 0 "$work/legal" /dev/null check "$1" "$records"
-    also=$(other_options_of "$1")
-    # shellcheck disable=SC2086
-    [ -z "$also" ] || told "${1##*/} $also" 0 "${1%.trace}.also" /dev/null trace --records $also "$1"
 }
 
 traces() {
@@ -522,6 +519,15 @@ seeded_traces() {
     echo legal >"$work/legal"
     for text in "$examples"/traces/*.trace; do
         if is_seeded "$text"; then trace "$text"; fi
+    done
+}
+
+# The records of a trace with other options, if it names some: by one worker, whose runs are alike.
+other_traces() {
+    for text in "$examples"/traces/*.trace; do
+        also=$(other_options_of "$text")
+        # shellcheck disable=SC2086
+        [ -z "$also" ] || told "${text##*/} $also" 0 "${text%.trace}.also" /dev/null trace --records $also "$text"
     done
 }
 

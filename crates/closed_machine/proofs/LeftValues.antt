@@ -86,8 +86,10 @@ last_left : (m : Memory) (a : ℕ) (w : Write) (rs : List Record) → Rises rs �
     Each (NotLater a w) rs → replay_end m (map (λ (r : Record). r.op) rs) a ≡ w.value
 last_left m a w [] rises there late = absurd there
 last_left m a w (r ∷ rs) rises (inl is) late =
-    none_left (flat_after m r.op) a rs (no_more a r w rs is.1 is.2 (before_all r rs rises) late.1) ∙ wrote m a r.op w.value is.0
-last_left m a w (r ∷ rs) rises (inr there) late = last_left (flat_after m r.op) a w rs (others_rise r rs rises) there late.1
+    none_left (flat_after m r.op) a rs (no_more a r w rs is.1 is.2 (before_all r rs rises) late.1)
+    ∙ wrote m a r.op w.value is.0
+last_left m a w (r ∷ rs) rises (inr there) late =
+    last_left (flat_after m r.op) a w rs (others_rise r rs rises) there late.1
 
 -- the same of the records in another order
 each_permuted : (P : Record → Type 0) (xs ys : List Record) → IsPermutation xs ys → Each P xs → Each P ys

@@ -87,7 +87,8 @@ open-gone core line (Some op) there free =
     (λ e. true≢false (sym (eq-eqb (address op / core.line_words) line e) ∙ free))
 
 pub open-used :
-    (core : CoreState) (line : ℕ) (copy : LineCopy) (op : Option Op) → is_pinned (option_map (line_of core) op) line ≡ true →
+    (core : CoreState) (line : ℕ) (copy : LineCopy) (op : Option Op) →
+    is_pinned (option_map (line_of core) op) line ≡ true →
     has_open_copy core.line_words core.cache op ≡ true →
     has_open_copy core.line_words (with_used core.cache line copy) op ≡ true
 open-used core line copy None pinned there = cc
@@ -97,8 +98,8 @@ open-used core line copy (Some op) pinned there =
     ∙ used core.cache (address op / core.line_words) there copy
 
 -- a copy that is taken out was there, and wasn't the pinned line's
-pub record IsOut (cache : Sets LineCopy) (line : ℕ) (pinned : Option ℕ) (found : Option LineCopy) (new : Sets LineCopy) :
-    Type 0 where
+pub record IsOut (cache : Sets LineCopy) (line : ℕ) (pinned : Option ℕ) (found : Option LineCopy)
+    (new : Sets LineCopy) : Type 0 where
   pub free : is_pinned pinned line ≡ false
   pub there : is_some found ≡ true
   pub gone : new ≡ without_copy cache line
@@ -123,7 +124,8 @@ is-out cache line pinned (Some copy) r new k e is =
 
 -- a copy that is there, and whose line nothing pins, is taken out
 pub taken-out :
-    (cache : Sets LineCopy) (line : ℕ) (found : Option LineCopy) (r : Result LineCopy CacheError) (new : Sets LineCopy) →
+    (cache : Sets LineCopy) (line : ℕ) (found : Option LineCopy) (r : Result LineCopy CacheError)
+    (new : Sets LineCopy) →
     (r, new) ≡ evicted cache line None found → is_some found ≡ true → new ≡ without_copy cache line
 taken-out cache line None r new e there = cc
 taken-out cache line (Some copy) r new e there = ap (λ p. p.1) e

@@ -58,7 +58,8 @@ impl Model for Core {
       issued = a.issued;
     } };
 
-    ghost invariant = { λ a. IsSetUp a.config.banks a.config.line_words × (a.has_copy ≡ has_open_copy a.config.line_words a.cache a.open_op) };
+    ghost invariant = { λ a. IsSetUp a.config.banks a.config.line_words
+        × (a.has_copy ≡ has_open_copy a.config.line_words a.cache a.open_op) };
 }
 
 impl Core {

@@ -42,8 +42,9 @@ watched_more k m (x ∷ events) e =
     watched_more (counter_seen k m x (transition m x).0 (transition m x).1) (transition m x).1 events e
 
 -- a row at an index, where one is added behind
-at_end : {X : Type 0} (xs : List X) (x : X) (P : ℕ → X → Type 0) → ((at : ℕ) (y : X) → slice_get xs at ≡ Some y → P at y) →
-    P (length xs) x → (at : ℕ) (y : X) → slice_get (xs ++ x ∷ []) at ≡ Some y → P at y
+at_end : {X : Type 0} (xs : List X) (x : X) (P : ℕ → X → Type 0) →
+    ((at : ℕ) (y : X) → slice_get xs at ≡ Some y → P at y) → P (length xs) x →
+    (at : ℕ) (y : X) → slice_get (xs ++ x ∷ []) at ≡ Some y → P at y
 at_end [] x P all last zero y is = subst (P 0) (Some_injective x y is) last
 at_end {X = X} [] x P all last (suc at) y is = absurd (let none : ◌≡◌ {A = Option X} None (Some y) = is in cc)
 at_end (z ∷ xs) x P all last zero y is = all zero y is
@@ -221,7 +222,8 @@ if_some : {X : Type 0} (P : X → Type 0) (o : Option X) → ((x : X) → o ≡ 
 if_some P None all = tt
 if_some P (Some x) all = all x refl
 
-module _ (config : Config) (memory : FinMap nat_cmp ℕ) (cores banks every : ℕ) (events : List Event) (some : 0 < every) where
+module _ (config : Config) (memory : FinMap nat_cmp ℕ) (cores banks every : ℕ) (events : List Event)
+    (some : 0 < every) where
   abbrev start : Machine
   start = at_start config memory
 

@@ -260,7 +260,8 @@ causes_told config memory cores banks core every events state op few below at op
     without None told absent = inl (refl, never m events core line told absent)
     without (Some why) told absent = inr told
 
-    with_copy : (o : Op) (copy : LineCopy) → IsCause m events core line o true (cause_on o (Some copy) (loss lost core line))
+    with_copy : (o : Op) (copy : LineCopy) →
+        IsCause m events core line o true (cause_on o (Some copy) (loss lost core line))
     with_copy (Load a) copy = refl
     with_copy (Store a v) copy = refl
     with_copy (Swap a v) copy = refl

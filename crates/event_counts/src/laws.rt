@@ -56,7 +56,8 @@ pub fn every_lost_copy_is_noted()
 
 /// The cause that the counter finds for a core's open operation is right, behind any events of a run. If the core has a
 /// copy of the line, it is Ended for a load, and Shared for a store or swap. If it has none, it is Cold exactly if it
-/// never had one. It is Evicted or Recalled exactly if the last copy was taken so. A request is counted with this cause.
+/// never had one. It is Evicted or Recalled exactly if the last copy was taken so. A request is counted with this
+/// cause.
 pub fn every_miss_has_its_cause()
     ensures { (config : Config) (memory : FinMap nat_cmp ℕ) (cores banks core : ℕ)
         (every : Option ℕ) (events : List Event) (state : CoreState) (op : Op) →

@@ -25,8 +25,9 @@ same_answer records answer.Requested = refl
 same_answer records _ = refl
 
 -- so with the machine that has those records
-pub told_in : (m : Machine) (records : List Record) (a : Answer) (plain : Option PlainAnswer) (next : Answer × Machine) →
-    plain ≡ plain_of a → m.records ≡ with_record records a → (a, m) ≡ next → (answer_in m.records plain, m) ≡ next
+pub told_in : (m : Machine) (records : List Record) (a : Answer) (plain : Option PlainAnswer)
+    (next : Answer × Machine) → plain ≡ plain_of a → m.records ≡ with_record records a → (a, m) ≡ next →
+    (answer_in m.records plain, m) ≡ next
 told_in m records a plain next is recorded same =
     ap (λ (p : Option PlainAnswer). (answer_in m.records p, m)) is
     ∙ ap (λ (rs : List Record). (answer_in rs (plain_of a), m)) recorded

@@ -40,7 +40,8 @@ module _ (holds : Option CoreState → Bool) (mask : ℕ) (cores : List CoreStat
 
   pub same_mask : holds (Some core) ≡ holds (Some old) → IsMask mask (λ i. holds (slice_get (set cores at core) i))
   same_mask same = noted mask
-      (is at ∙ ap (λ (o : Option CoreState). cond (holds o) 1 0) here ∙ ap (λ b. cond b 1 0) (sym same)) (λ i other. refl)
+      (is at ∙ ap (λ (o : Option CoreState). cond (holds o) 1 0) here ∙ ap (λ b. cond b 1 0) (sym same))
+      (λ i other. refl)
 
 module _ (masks : CoreMasks) (cores : List CoreState) (at : ℕ) (old core : CoreState)
     (here : slice_get cores at ≡ Some old) (are : AreMasks masks cores) where
@@ -58,7 +59,8 @@ module _ (masks : CoreMasks) (cores : List CoreState) (at : ℕ) (old core : Cor
     trying = noted is_trying_of masks.trying cores at old core here are.trying trying tries other_tries;
   }
 
-  pub trying_noted : core.open_op ≡ old.open_op → (trying : ℕ) → bit_at trying at ≡ cond (is_trying_of (Some core)) 1 0 →
+  pub trying_noted : core.open_op ≡ old.open_op → (trying : ℕ) →
+      bit_at trying at ≡ cond (is_trying_of (Some core)) 1 0 →
       ((i : ℕ) → i ≢ at → bit_at trying i ≡ bit_at masks.trying i) →
       AreMasks (record masks { trying = trying }) (set cores at core)
   trying_noted same trying tries others = record {
@@ -109,7 +111,8 @@ module _ (config : Config) where
       AreMasks (record { idle = idle; trying = 0 }) (row (open_core config) 0 n)
   first_masks n idle few is =
       let ones : idle ≡ 2 ^ n - 1 =
-      is ∙ ones_shr 64 (64 - n) (omega arith) ∙ (let back : 64 - (64 - n) ≡ n = omega (arith, few) in ap (λ k. 2 ^ k - 1) back) in
+      is ∙ ones_shr 64 (64 - n) (omega arith)
+      ∙ (let back : 64 - (64 - n) ≡ n = omega (arith, few) in ap (λ k. 2 ^ k - 1) back) in
       record {
         few = let long = row_many (open_core config) 0 n in omega (arith, long, few);
         idle = λ i. ap (λ k. bit_at k i) ones ∙ by_side i;

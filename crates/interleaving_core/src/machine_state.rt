@@ -34,11 +34,26 @@ impl<H: History> Model for MachineState<H> {
 
     ghost Value = { Machine };
 
-    ghost coded = { Prim.hlevel (codes, map.code {R = nat_cmp} coded_ℕ coded_ℕ, map.code {R = nat_cmp} coded_ℕ (coded_list coded_ℕ)) };
+    ghost coded = { Prim.hlevel (
+      codes,
+      map.code {R = nat_cmp} coded_ℕ coded_ℕ,
+      map.code {R = nat_cmp} coded_ℕ (coded_list coded_ℕ),
+    ) };
 
-    ghost view = { λ a. record { config = a.config; opening = a.opening; cores = a.cores.items; banks = a.banks.items; drams = a.drams.items; mail = a.flight.mail; issued = H.issued a.history; records = H.records a.history; is_stopped = a.is_stopped } };
+    ghost view = { λ a. record {
+      config = a.config;
+      opening = a.opening;
+      cores = a.cores.items;
+      banks = a.banks.items;
+      drams = a.drams.items;
+      mail = a.flight.mail;
+      issued = H.issued a.history;
+      records = H.records a.history;
+      is_stopped = a.is_stopped;
+    } };
 
     // The messages in flight are those of this machine, there is room for the record of each open operation, and
     // the masks are those of the cores.
-    ghost invariant = { λ a. IsFitted a.config a.flight a.cores.items (H.records a.history) (H.room a.history) a.masks };
+    ghost invariant = { λ a.
+        IsFitted a.config a.flight a.cores.items (H.records a.history) (H.room a.history) a.masks };
 }

@@ -58,7 +58,11 @@ impl<H: History> Model for System<H> {
 
     ghost Value = { Machine };
 
-    ghost coded = { Prim.hlevel (codes, finite.code {R = nat_cmp} coded_ℕ coded_ℕ, finite.code {R = nat_cmp} coded_ℕ (coded_list coded_ℕ)) };
+    ghost coded = { Prim.hlevel (
+      codes,
+      finite.code {R = nat_cmp} coded_ℕ coded_ℕ,
+      finite.code {R = nat_cmp} coded_ℕ (coded_list coded_ℕ),
+    ) };
 
     ghost view = { λ a. a.state };
 

@@ -25,7 +25,8 @@ impl Model for ToldHistory {
 
     ghost view = { λ a. a.unkept.lists };
 
-    ghost invariant = { λ a. (a.count ≡ length a.unkept.lists.1) × (a.last ≡ slice_get a.unkept.lists.1 (length a.unkept.lists.1 - 1)) };
+    ghost invariant = { λ a. (a.count ≡ length a.unkept.lists.1)
+        × (a.last ≡ slice_get a.unkept.lists.1 (length a.unkept.lists.1 - 1)) };
 }
 
 impl History for ToldHistory {

@@ -50,7 +50,11 @@ impl<V: Listed> Model for LineSets<V> {
 
     // The counts and the order, if it is kept, are those of the listed lines. A kept order has room for all lines that
     // there may be, so it stays kept whatever line comes.
-    ghost invariant = { λ table. IsStored table.ways table.arena table.rows × (table.listed ≡ length (all_listed V.is_listed (sets_of table.arena.lists))) × IsOrderOf table.order (all_listed V.is_listed (sets_of table.arena.lists)) × HasRoom table.arena.cells (room_of table.order) × (table.unlisted.items ≡ counts_without V.is_listed (sets_of table.arena.lists)) };
+    ghost invariant = { λ table. IsStored table.ways table.arena table.rows
+        × (table.listed ≡ length (all_listed V.is_listed (sets_of table.arena.lists)))
+        × IsOrderOf table.order (all_listed V.is_listed (sets_of table.arena.lists))
+        × HasRoom table.arena.cells (room_of table.order)
+        × (table.unlisted.items ≡ counts_without V.is_listed (sets_of table.arena.lists)) };
 }
 
 impl<V: Copy + Listed> LineSets<V> {

@@ -262,10 +262,11 @@ module _ (config : Config) (opening : FinMap nat_cmp ℕ) (before : State) (mess
       grind (
         arith,
         bank_goes config.lease (IsPinned (set_up config opening) (view config a).cores l) here.mts
-            (line_seen config a l) (messages_of rest l) (core_of message.from) here message Up Reacts refl tt tt loads recalls
-            grants becomes leaves room message.body (and_parts (is_this_bank here.number message.to) (comes_to_bank
-            message.from message.body (entry_of here l)) has).1 (up message.body goes_home.2) (subst (λ (k : ℕ). IsPermutation
-            (messages_of a.bag l) (body_seen (core_of message.from) k message.body ∷ messages_of rest l)) to came),
+            (line_seen config a l) (messages_of rest l) (core_of message.from) here message Up Reacts refl tt tt
+            loads recalls grants becomes leaves room message.body (and_parts (is_this_bank here.number message.to)
+            (comes_to_bank message.from message.body (entry_of here l)) has).1 (up message.body goes_home.2)
+            (subst (λ (k : ℕ). IsPermutation (messages_of a.bag l) (body_seen (core_of message.from) k message.body
+            ∷ messages_of rest l)) to came),
       )
 
   -- to the DRAM behind it

@@ -173,8 +173,9 @@ module _ (c : ℕ) (op : Op) where
         (off line unpinned))
 
     no_reply : (line : ℕ) (place : Bool) → (waits_for k.core line && place) ≡ true → ⊥
-    no_reply line place has = absurd (let z = (and_parts k.core.is_out _ (and_parts (waits_for k.core line) place has).0).0
-        in let w : true ≡ false = sym z ∙ k.quiet in cc)
+    no_reply line place has =
+        absurd (let z = (and_parts k.core.is_out _ (and_parts (waits_for k.core line) place has).0).0 in
+        let w : true ≡ false = sym z ∙ k.quiet in cc)
 
     by_body : (line : ℕ) (b : Body) → comes_to_core k.core line b ≡ true → (pin : Bool) →
         is_pinned (pinned_line k.core) line ≡ pin → (o : Option LineCopy) → copy_of k.core.cache line ≡ o →
@@ -204,7 +205,8 @@ module _ (c : ℕ) (op : Op) where
         (cache.evicted k.core.cache line (pinned_line k.core) o)))
     evicts line None = tt
     evicts line (Some copy) = cond_both (is_pinned (pinned_line k.core) line) _ _
-        (λ r. Makes (copy_evicted (core_table.sent_back k.core line r))) (λ pinned. tt) (λ unpinned. without line unpinned)
+        (λ r. Makes (copy_evicted (core_table.sent_back k.core line r))) (λ pinned. tt)
+        (λ unpinned. without line unpinned)
 
     -- by whether it is this core that takes a step
     if_core : (d : ℕ) (does : CoreState → Answer × Machine) → (d ≢ c → (core : CoreState) → Stays (does core)) →

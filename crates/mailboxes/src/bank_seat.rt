@@ -30,7 +30,11 @@ pub struct BankSeat {
     pub(crate) part: SendingBank,
     // Whether a sum of times didn't fit: the seat's calls that can refuse then answer Stopped.
     pub(crate) is_stopped: bool,
-    pub ghost tied: { BankTied mail.seat.me.0.mine part.bank part.dram part.outbox } by { Prim.hlevel (props, codes, stored_dram.the_row.coded) },
+    pub ghost tied: { BankTied mail.seat.me.0.mine part.bank part.dram part.outbox } by { Prim.hlevel (
+      props,
+      codes,
+      stored_dram.the_row.coded,
+    ) },
     pub ghost linked: { AllLinked mail.cores mail.banks mail.number part.outbox.messages },
 }
 

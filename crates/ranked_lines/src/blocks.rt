@@ -24,7 +24,8 @@ impl Model for Blocks {
 
     ghost view = { λ numbers. (joined numbers.blocks.items, vec_capacity numbers.blocks) };
 
-    ghost invariant = { λ numbers. Rises (joined numbers.blocks.items) × Filled numbers.blocks.items × Dense 65 numbers.blocks.items };
+    ghost invariant = { λ numbers. Rises (joined numbers.blocks.items) × Filled numbers.blocks.items
+        × Dense 65 numbers.blocks.items };
 }
 
 /// How many blocks from the front on have only numbers below one, by a binary search.

@@ -43,14 +43,14 @@ AreTold options known records (m ∷ earlier) =
     × (times_told options.progress earlier < times_passed options.progress (length m.records))
     × AreTold options known m.records earlier
 
--- such lines went out, as far as no write failed, and none is missing of a run of these records
+-- Such lines went out, as far as no write failed. By the last of them it was as often as by all of these records.
 abbrev pub IsProgress : StreamOptions → Option (List ℕ) → List Record → (old new : Option (List ℕ)) →
     (before after : ℕ) → Type 0
 IsProgress options known records old new before after = (told : List Machine) × AreTold options known records told
     × (times_told options.progress told ≡ times_passed options.progress (length records))
     × TextGoesOut old new before after (lines_told told)
 
--- the text reports a run of all the steps that the source had, and the lines are of that run
+-- the text reports a run of all the steps that the source had, and the lines are of its first records
 abbrev pub IsToldReport : StreamOptions → Option (List ℕ) → Bool → (old new : Option (List ℕ)) → (before after : ℕ) →
     List ℕ → Type 0
 IsToldReport options known all_done old new before after text = (report : IsStreamReport options known all_done text)

@@ -61,8 +61,8 @@ pub fn run_stream<S: Source, K: Sink, E: Sink>(
     ensures untouched { IsErrOf result RunError.BadConfig →
         (source.new ≡ source.old) × (sink.new ≡ sink.old) }
 
-    // What was told of the run meanwhile. No line is missing at its end; but they end where a call of `errors` fails,
-    // which changes nothing else.
+    // What was told meanwhile, of a run's first records. By the last line it came to as many multiples as at the end;
+    // but lines end where a call of `errors` fails, which changes nothing else.
     ensures told { IfOk result (λ done. IsReported (IsToldReport options.now
         (S.remaining source.old) done.all_done (E.contents errors.old) (E.contents errors.new)
         (E.failures errors.old) (E.failures errors.new))

@@ -1,4 +1,5 @@
-//! A label with a number or a word, the counts of what was sent, and a word of memory: a line, or a member of an object.
+//! A label with a number or a word, the counts of what was sent, and a word of memory: a line, or a member of an
+//! object.
 
 ghost use Rattle.std.specs.Prelude.{◌≡◌, ◌++◌, OnOk};
 ghost use Rattle.report_lines.specs.Lines.{counts_text, field, value_text, word_field};
@@ -90,8 +91,8 @@ pub fn put_counts(out: &mut Vec<u8>, layout: Layout, counts: Counts) -> Result<(
     put_field(out, layout, b"write-backs", counts.write_backs)
 }
 
-/// A word of memory, by its address, and its value: a line, or an object's first member. If allocation fails, part of it
-/// may be in the text.
+/// A word of memory, by its address, and its value: a line, or an object's first member. If allocation fails, part of
+/// it may be in the text.
 pub fn put_value(
     out: &mut Vec<u8>,
     layout: Layout,

@@ -12,7 +12,8 @@ use Rattle.round_robin.proofs.Deals.{lengths_of, next_length, last_length, one_m
 
 module _ {A V : Type 0} (f : V → List A) where
   -- the hand of an item is one of the hands
-  pub hand_is_there : (m first n : ℕ) (vs : List V) → 0 < n → length (map f vs) ≡ n → hand_of first n (m % n) < length vs
+  pub hand_is_there : (m first n : ℕ) (vs : List V) → 0 < n → length (map f vs) ≡ n →
+      hand_of first n (m % n) < length vs
   hand_is_there m first n vs some count =
       let r = mod_below (first + m % n) n some in
       let long = length-map vs f in
@@ -85,7 +86,8 @@ module _ {A V : Type 0} (f : V → List A) where
       let has : length (get_or (map f vs) (hand_of first n (m % n)) []) ≡ m / n =
       next_length (length front) first n (map f vs) (m / n) (m % n) (lengths_of front first n (map f vs) d)
       (long ∙ split_place n m) r in
-      let same : length (get_or (map f vs) (hand_of first n (m % n)) []) ≡ length (f v) = ap length (hand_read vs (hand_of first n (m % n)) v inside e) in
+      let same : length (get_or (map f vs) (hand_of first n (m % n)) []) ≡ length (f v) =
+      ap length (hand_read vs (hand_of first n (m % n)) v inside e) in
       let some : 0 < n = d.some in
       let low : m / n * n ≤ m = div-mul-le_self m n in
       let up : m / n ≤ all / n = le-div (m / n) all n some (omega arith) in
@@ -99,12 +101,14 @@ module _ {A V : Type 0} (f : V → List A) where
       let inside = hand_is_there m first n vs d.some d.count in
       let has : length (get_or (map f vs) (hand_of first n (m % n)) []) ≡ m / n + 1 =
       last_length m first n (map f vs) (m / n) (m % n) d (split_place n m) r in
-      let same : length (get_or (map f vs) (hand_of first n (m % n)) []) ≡ length (f v) = ap length (hand_read vs (hand_of first n (m % n)) v inside e) in
+      let same : length (get_or (map f vs) (hand_of first n (m % n)) []) ≡ length (f v) =
+      ap length (hand_read vs (hand_of first n (m % n)) v inside e) in
       omega arith
 
   -- the last item comes from its hand: the lengths that are left
   pub comes_from_hand : (m first n : ℕ) (vs : List V) (v w : V) (x : A) → HasLengths (m + 1) first n (map f vs) →
-      v ≡ get_or vs (hand_of first n (m % n)) v → f v ≡ f w ++ x ∷ [] → HasLengths m first n (map f (set vs (hand_of first n (m % n)) w))
+      v ≡ get_or vs (hand_of first n (m % n)) v → f v ≡ f w ++ x ∷ [] →
+      HasLengths m first n (map f (set vs (hand_of first n (m % n)) w))
   comes_from_hand m first n vs v w x d e less =
       let r = mod_below m n d.some in
       let inside = hand_is_there m first n vs d.some d.count in

@@ -23,7 +23,8 @@ module _ {W : Type 0} (watches : Watches W) where
       watched watches (watched watches before start xs) (after_all start xs) ys
   seen_after before start [] ys = refl
   seen_after before start (x ∷ xs) ys =
-      seen_after (watches.sees before start x (transition start x).0 (transition start x).1) (transition start x).1 xs ys
+      seen_after (watches.sees before start x (transition start x).0 (transition start x).1) (transition start x).1
+      xs ys
 
   pub seen_both : {before : watches.Seen} {start m n : Machine} {w v : W} (xs ys : List Event) →
       AreSeen watches before start xs m w → AreSeen watches (watches.seen w) m ys n v →
@@ -139,7 +140,8 @@ module _ {P W : Type 0} (acts : Acts P) (watches : Watches W) where
 
   -- one part, and the other
   pub did_then : {p q : Point P W} (u : Point P W) (f g : Part P) →
-      IsMade acts watches (f (standing p false)) p q false → (o : Option End) → Reaches acts watches g q o u → Reaches acts watches (followed_by acts f g) p o u
+      IsMade acts watches (f (standing p false)) p q false → (o : Option End) → Reaches acts watches g q o u →
+      Reaches acts watches (followed_by acts f g) p o u
   did_then {p} {q} u f g h None k =
       subst (λ (s : Standing P). IsMade acts watches (f (standing p false) ++ g s) p u false) (sym h.leads)
       (made_both (f (standing p false)) (g (standing q false)) h k)

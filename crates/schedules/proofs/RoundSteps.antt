@@ -35,8 +35,8 @@ module _ {P : Type 0} (acts : Acts P) where
   not_attempted core (Some x) s has = absurd cc
 
   module _ (Draws : Type 0) where
-    step_gives : (core : ℕ) (o : Option (Op × Bool)) (next : Option Step) (s : Standing P) → open_op s.machine core ≡ o →
-        next_in acts s.programs core ≡ next → AreGiven acts Draws s (step_of core o next s)
+    step_gives : (core : ℕ) (o : Option (Op × Bool)) (next : Option Step) (s : Standing P) →
+        open_op s.machine core ≡ o → next_in acts s.programs core ≡ next → AreGiven acts Draws s (step_of core o next s)
     step_gives core None None s free is = tt
     step_gives core None (Some (step.Op op)) s free is = ((free, is), tt)
     step_gives core None (Some step.Advance) s free is = ((free, is), tt)

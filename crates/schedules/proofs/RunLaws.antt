@@ -146,8 +146,10 @@ module _ {P S : Type 0} (plan : Plan P S) (m : Machine) (opening : List P) (own 
           let parts = and_parts (is_none (open_op ended.last.machine core))
           (is_none (next_in plan.acts ended.last.programs core))
           (each_over plan.acts ended.last.machine ended.last.programs ended.last.machine.config.cores core
-          (rw ended.machine_is below) over) in
-          (none_of (open_op ended.last.machine core) parts.0, none_of (next_in plan.acts ended.last.programs core) parts.1)
+          (rw ended.machine_is below) over) in (
+            none_of (open_op ended.last.machine core) parts.0,
+            none_of (next_in plan.acts ended.last.programs core) parts.1,
+          )
 
 -- a run leaves no choice, whether its events are kept or not
 same_run : {P S : Type 0} {keeps also : Bool} (plan : Plan P S) (start : Position P S) (events others : List Event)

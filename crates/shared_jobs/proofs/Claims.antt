@@ -27,18 +27,21 @@ few_below least bound (x ∷ xs) le rises below =
 numbers_below : {X : Type 0} (bound : ℕ) (ps : List (ℕ × X)) → AreOfJobsBelow bound ps →
     AllBelow bound (map (λ (p : ℕ × X). p.0) ps)
 numbers_below bound [] all = tt
-numbers_below bound (p ∷ ps) all = (all 0 p (omega arith), numbers_below bound ps (λ k d lt. all (suc k) d (omega arith)))
+numbers_below bound (p ∷ ps) all =
+    (all 0 p (omega arith), numbers_below bound ps (λ k d lt. all (suc k) d (omega arith)))
 
 pub few_done : {X : Type 0} (count : ℕ) (ps : List (ℕ × X)) (drawn : List ℕ) →
     drawn ≡ map (λ (p : ℕ × X). p.0) ps ++ [] → RisesFrom 0 drawn → AreOfJobsBelow count ps → length ps ≤ count
 few_done count ps drawn is rises below =
     let same : drawn ≡ map (λ (p : ℕ × _). p.0) ps = is ∙ append-nil (map (λ (p : ℕ × _). p.0) ps) in
-    let few = few_below 0 count drawn (omega arith) rises (subst (AllBelow count) (sym same) (numbers_below count ps below)) in
+    let all = subst (AllBelow count) (sym same) (numbers_below count ps below) in
+    let few = few_below 0 count drawn (omega arith) rises all in
     let long = ap length same in
     let as_many = length-map {B = ℕ} ps (λ (p : ℕ × _). p.0) in
     omega arith
 
-module _ {X : Type 0} (drawn drawn' : List ℕ) (ps : List (ℕ × X)) (done : drawn ≡ map (λ (p : ℕ × X). p.0) ps ++ []) where
+module _ {X : Type 0} (drawn drawn' : List ℕ) (ps : List (ℕ × X))
+    (done : drawn ≡ map (λ (p : ℕ × X). p.0) ps ++ []) where
   -- one more is claimed, and one more is done
   pub one_claimed : (n : ℕ) → drawn' ≡ drawn ++ n ∷ [] → drawn' ≡ map (λ (p : ℕ × X). p.0) ps ++ n ∷ []
   one_claimed n is = is ∙ ap (λ ds. ds ++ n ∷ []) (done ∙ append-nil (map (λ (p : ℕ × X). p.0) ps))

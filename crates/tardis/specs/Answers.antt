@@ -116,8 +116,8 @@ RunsStream d options known old new (Err BadConfig) = HasNoStream options known B
 RunsStream d options known old new (Err error) =
     HasNoStream options known error × IsReported (IsBegun options known) (d.contents old) (d.contents new)
 
--- What was told of the run on standard error meanwhile: nothing, if that isn't asked for or the machine can't be had. If
--- there is a report, it is of the same run.
+-- What was told of the run on standard error meanwhile: nothing, if that isn't asked for or the machine can't be had.
+-- If there is a report, the lines are of its first records.
 abbrev pub TellsRun : {F K E : Type 0} → Devices F K → Devices F E → StreamOptions → E → E → Option (List ℕ) → K → K →
     Result Done RunError → Type 0
 TellsRun d e options errors errors' known old new came =

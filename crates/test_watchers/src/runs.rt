@@ -21,8 +21,8 @@ const ONE: Config = Config {
     private_write: false,
 };
 
-/// A run of one store: its policy, how many turns are a piece of its own, the most events that the watcher takes, how it
-/// ends, how many messages are in flight after each event and at the end, and how many attempts waited.
+/// A run of one store: its policy, how many turns are a piece of its own, the most events that the watcher takes, how
+/// it ends, how many messages are in flight after each event and at the end, and how many attempts waited.
 #[derive(Clone, Copy)]
 struct Case {
     policy: Policy,

@@ -22,7 +22,8 @@ returns-in-Requested c cores old core here stands are =
     let out : core ≡ record old { is_out = true } =
     subst (λ (a : Answer). StandsAfter a old core) c.in-Requested.is stands in
     let told = c.with_bit-masks-in-Requested in
-    trying_noted c.args.masks.now cores c.args.number old core here are (ap (λ (x : CoreState). x.open_op) out) told.result
+    trying_noted c.args.masks.now cores c.args.number old core here are (ap (λ (x : CoreState). x.open_op) out)
+    told.result
     (told.ensures.here ∙ none_out (is_some old.open_op)
     ∙ ap (λ (x : CoreState). cond (is_some x.open_op && not x.is_out) 1 0) (sym out))
     told.ensures.elsewhere

@@ -33,5 +33,6 @@ returns g c =
     IfOk-weaker c.report_on.result _ _ (λ report told.
     told_run options lanes c.args.config (ByThreads c.args.fair) limit ran.end m (is_counted options) None
     c.requires.good c.requires.config c.requires.threads c.limit_of-limit.ensures.limit refl
-    (c.in_ok-ran.ensures.1 (is_counted options)) (uncounted (is_counted options) c.args.fair options.every limit c.args.config lanes ran.end m) report
+    (c.in_ok-ran.ensures.1 (is_counted options))
+    (uncounted (is_counted options) c.args.fair options.every limit c.args.config lanes ran.end m) report
     (told m (parts, refl))) c.report_on.ensures

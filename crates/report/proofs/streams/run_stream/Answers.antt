@@ -9,4 +9,5 @@ returns-in_default-clause-telling g c =
 
 pub returns-clause-reported : goal.returns-clause-reported
 returns-clause-reported g c =
-    IfOk-weaker c.stream_on_machine.result _ _ (λ done told. (told.0, told.1.0, told.2)) c.stream_on_machine.ensures.told
+    IfOk-weaker c.stream_on_machine.result _ _ (λ done told. (told.0, told.1.0, told.2))
+    c.stream_on_machine.ensures.told

@@ -29,14 +29,16 @@ loop-i-preserved g c =
           let now : c.match-pop.items.items ≡ c.loop-i.items.items ++ x ∷ [] =
           ap (λ v. v.items) w.items-is ∙ w.push_reserved.ensures.items in
           record {
-            lengths = subst (λ z. HasLengths z c.args.first n (map (λ v. v.items) (set vs (hand_of c.args.first n (m % n)) rest))) (sym less)
+            lengths = subst (λ z. HasLengths z c.args.first n
+                (map (λ v. v.items) (set vs (hand_of c.args.first n (m % n)) rest))) (sym less)
                 (comes_from_hand (λ v. v.items) m c.args.first n vs v rest x lengths value items);
             dealt = λ front long d.
                 subst (λ z. IsDealtInTurn z c.args.first n (map (λ v. v.items) c.args.dealt.items))
                 (one_more_turned front c.match-pop.items.items c.loop-i.items.items x
                 (front ++ reverse c.match-pop.items.items) now refl)
                 (i.dealt (front ++ x ∷ []) (length-append front (x ∷ []) ∙ ap (λ z. z + 1) (long ∙ less) ∙ sym left)
-                (is_dealt_with_last (λ v. v.items) m c.args.first n vs v rest x front d there (long ∙ less) value items));
+                (is_dealt_with_last (λ v. v.items) m c.args.first n vs v rest x front d there (long ∙ less) value
+                items));
             gathered = ap length now ∙ length-append c.loop-i.items.items (x ∷ []) ∙ ap (λ z. z + 1) i.gathered;
             capacity = ap vec_capacity w.items-is ∙ w.push_reserved.ensures.capacity ∙ i.capacity;
           })

@@ -9,7 +9,8 @@ use Rattle.core_pts.proofs.core_state.Core.keep.Goals as goal
 pub invariant_of-self : goal.invariant_of-self
 invariant_of-self c =
     let words = c.self.inside.config.line_words in let op = c.self.inside.open_op in
-    let there : is_some (copy_of c.self.inside.cache c.args.line) ≡ true = rw (← c.self.view_is) at c.requires.there in (
+    let there : is_some (copy_of c.self.inside.cache c.args.line) ≡ true =
+    rw (← c.self.view_is) at c.requires.there in (
       c.self.invariant.0,
       c.self.invariant.1 ∙ sym (ap (λ cache. has_open_copy words cache op) c.change.ensures
           ∙ open-changed words c.self.inside.cache c.args.line c.in-Some.copy op there),

@@ -31,8 +31,8 @@ invariant_of-self g c =
       banks_are = c.self.invariant.banks_are;
       capacity_is = c.self.invariant.capacity_is;
       reserved = omega (arith, same, c.self.invariant.reserved);
-      masked = still_masked c.self.inside.masks c.self.inside.cores.items c.args.core core _ here c.self.invariant.masked
-          status.0 status.1;
+      masked = still_masked c.self.inside.masks c.self.inside.cores.items c.args.core core _ here
+          c.self.invariant.masked status.0 status.1;
     }
 
 pub returns : goal.returns

@@ -42,7 +42,8 @@ pub keep-requires : goal.keep-requires
 keep-requires g c =
     let here = slice_get_read c.self.inside.cores.items (length c.self.inside.cores.items) c.args.core
     c.index_mut.result.now refl (omega (arith, c.if-at-len.false, c.len.ensures)) c.index_mut.ensures.value in
-    let count = subst (λ (x : Answer × CoreState × Mail). length (with_record (g.H.History.records c.self.inside.history) x.0) +
+    let count = subst (λ (x : Answer × CoreState × Mail).
+    length (with_record (g.H.History.records c.self.inside.history) x.0) +
     owed_for x.1.open_op ≡ length (g.H.History.records c.self.inside.history) + owed_for c.index_mut.result.now.open_op)
     (sym c.attempt-answer.ensures.done)
     (balanced c.index_mut.result.now c.args.core c.count-count.result c.self.inside.flight.capacity
@@ -55,7 +56,8 @@ pub invariant_of-self : goal.invariant_of-self
 invariant_of-self g c =
     let here = slice_get_read c.self.inside.cores.items (length c.self.inside.cores.items) c.args.core
     c.index_mut.result.now refl (omega (arith, c.if-at-len.false, c.len.ensures)) c.index_mut.ensures.value in
-    let count = subst (λ (x : Answer × CoreState × Mail). length (with_record (g.H.History.records c.self.inside.history) x.0) +
+    let count = subst (λ (x : Answer × CoreState × Mail).
+    length (with_record (g.H.History.records c.self.inside.history) x.0) +
     owed_for x.1.open_op ≡ length (g.H.History.records c.self.inside.history) + owed_for c.index_mut.result.now.open_op)
     (sym c.attempt-answer.ensures.done)
     (balanced c.index_mut.result.now c.args.core c.count-count.result c.self.inside.flight.capacity
@@ -67,7 +69,8 @@ invariant_of-self g c =
     (sym c.attempt-answer.ensures.done)
     (attempt_stands c.index_mut.result.now c.args.core c.count-count.result c.self.inside.flight.capacity
     c.self.inside.flight.mail) in
-    still_fitted c.self.inside.config c.self.inside.flight c.self.inside.cores.items (g.H.History.records c.self.inside.history) _
+    still_fitted c.self.inside.config c.self.inside.flight c.self.inside.cores.items
+    (g.H.History.records c.self.inside.history) _
     c.self.invariant _ _ _ _ _ c.attempt-answer.ensures.set_up
     (omega (arith, count, all, kept, c.keep.ensures.room, c.self.invariant.reserved))
     (c.note_attempt.ensures c.self.inside.cores.items c.index_mut.result.now c.attempt-answer.new.core here stands
@@ -79,7 +82,8 @@ returns-clause-tried g c =
     let core = c.index_mut.result.now in
     let here = slice_get_read c.self.inside.cores.items (length c.self.inside.cores.items) c.args.core
     c.index_mut.result.now refl (omega (arith, c.if-at-len.false, c.len.ensures)) c.index_mut.ensures.value in
-    let counted : c.count-count.result ≡ length (g.H.History.records c.self.inside.history) = omega (arith, c.count-count.ensures) in
+    let counted : c.count-count.result ≡ length (g.H.History.records c.self.inside.history) =
+    omega (arith, c.count-count.ensures) in
     let tries = attempt_open core core.open_op in
     let done = c.attempt-answer.ensures.done
     ∙ ap (λ (n : ℕ). applied_attempt c.args.core n c.self.inside.flight.capacity m.mail core tries) counted
@@ -92,7 +96,8 @@ returns-clause-tried g c =
       records = g.H.History.records c.keep.new.history;
       is_stopped = c.stop.new.is_stopped;
     } in
-    ap (λ (issued : List (List Op)). (answer_in (g.H.History.records c.keep.new.history) c.plain_of.result, after issued))
+    ap (λ (issued : List (List Op)).
+    (answer_in (g.H.History.records c.keep.new.history) c.plain_of.result, after issued))
     c.keep.ensures.issued
     ∙ told_in _ m.records c.attempt-answer.result c.plain_of.result _ c.plain_of.ensures c.keep.ensures.records
     (put_so (core_place m c.args.core) core here

@@ -21,7 +21,8 @@ evict_entry-plain-requires g c =
     let here = slice_get_read c.self.inside.banks.items (length c.self.inside.banks.items) c.args.bank part refl
     (omega (arith, c.if-at-len.false, c.len.ensures)) c.index_mut.ensures.value in
     record {
-      endpoints = fitted_ends m.config c.self.inside.flight c.self.inside.cores.items (g.H.History.records c.self.inside.history) _
+      endpoints = fitted_ends m.config c.self.inside.flight c.self.inside.cores.items
+          (g.H.History.records c.self.inside.history) _
           c.self.invariant (λ a b. EvictedHasEndpoints a b (bank_table.evict part c.args.line).0)
           (evicted_endpoints m (subst Invariant (sym c.self.view_is) c.requires) c.args.bank
           part here c.args.line);
@@ -39,5 +40,5 @@ returns g c =
     (λ n. on_event n (EvictBank c.args.bank c.args.line))
     (sym (finds m (λ x. changed m (with_bank m c.args.bank) None
     (entry_evicted (bank_table.evict x c.args.line))) here))
-    (answer_of c.evict_entry-plain.result) c.evict_entry-plain.new.bank c.evict_entry-plain.new.flight.mail c.stop_after.new.is_stopped
-    c.evict_entry-plain.ensures.done c.stop_after.ensures
+    (answer_of c.evict_entry-plain.result) c.evict_entry-plain.new.bank c.evict_entry-plain.new.flight.mail
+    c.stop_after.new.is_stopped c.evict_entry-plain.ensures.done c.stop_after.ensures

@@ -27,7 +27,8 @@ evict_copy-plain-requires g c =
     let here = slice_get_read c.self.inside.cores.items (length c.self.inside.cores.items) c.args.core part refl
     (omega (arith, c.if-at-len.false, c.len.ensures)) c.index_mut.ensures.value in
     record {
-      endpoints = fitted_ends m.config c.self.inside.flight c.self.inside.cores.items (g.H.History.records c.self.inside.history) _
+      endpoints = fitted_ends m.config c.self.inside.flight c.self.inside.cores.items
+          (g.H.History.records c.self.inside.history) _
           c.self.invariant (λ a b. BackHasEndpoints a b (core_table.evict part c.args.line).0)
           (back_endpoints m (subst Invariant (sym c.self.view_is) c.requires) c.args.core
           part here c.args.line);
@@ -58,5 +59,5 @@ returns g c =
     c.self.inside.flight.capacity c.self.invariant.capacity_is _ c.self.view_is
     (λ n. on_event n (EvictCache c.args.core c.args.line))
     (sym (finds m (λ x. changed m (with_core m c.args.core) None (copy_evicted (core_table.evict x c.args.line))) here))
-    (answer_of c.evict_copy-plain.result) c.evict_copy-plain.new.core c.evict_copy-plain.new.flight.mail c.stop_after.new.is_stopped
-    c.evict_copy-plain.ensures.done c.stop_after.ensures
+    (answer_of c.evict_copy-plain.result) c.evict_copy-plain.new.core c.evict_copy-plain.new.flight.mail
+    c.stop_after.new.is_stopped c.evict_copy-plain.ensures.done c.stop_after.ensures

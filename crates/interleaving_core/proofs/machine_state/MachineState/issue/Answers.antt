@@ -39,7 +39,8 @@ invariant_of-self-2 g c =
       cores_are = c.self.invariant.cores_are;
       banks_are = c.self.invariant.banks_are;
       capacity_is = c.self.invariant.capacity_is;
-      reserved = omega (arith, same, most, c.in_ok-issue.ensures.reserved, ap length c.issue.ensures.records, c.len-2.ensures);
+      reserved =
+          omega (arith, same, most, c.in_ok-issue.ensures.reserved, ap length c.issue.ensures.records, c.len-2.ensures);
       masked = subst (λ (x : CoreState). AreMasks c.note.new.masks (set cores c.args.core x))
           (read_back cores c.args.core c.issue-issued.new.self c.index-3.result.now within c.index-3.ensures)
           (c.note.ensures cores c.index_mut.result.now here c.self.invariant.masked);

@@ -10,7 +10,8 @@ use Rattle.interleaving_core.proofs.machine_state.MachineState.reopen.Goals as g
 
 pub invariant_of-result : goal.invariant_of-result
 invariant_of-result g c =
-    let none = ap owed c.in_ok-reopen_parts.ensures.cores ∙ none_at_first c.self.inside.config 0 c.self.inside.config.cores in
+    let none =
+    ap owed c.in_ok-reopen_parts.ensures.cores ∙ none_at_first c.self.inside.config 0 c.self.inside.config.cores in
     let empty = ap length c.clear-2.ensures.records in
     record {
       cores_are = ap (λ (t : Flight). t.cores) c.clear.ensures ∙ c.self.invariant.cores_are;

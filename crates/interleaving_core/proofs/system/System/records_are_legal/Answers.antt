@@ -19,4 +19,5 @@ returns-clause-issued g c = λ core.
     (operation_of (slice_get m.cores core))) c.self.view_is ((consistent _ c.self.invariant.1).issued core)
 
 pub returns-clause-rising : goal.returns-clause-rising
-returns-clause-rising g c = subst (λ (m : Machine). RisesByNumber m.records) c.self.view_is (numbered_rise 0 _ c.self.invariant.2)
+returns-clause-rising g c =
+    subst (λ (m : Machine). RisesByNumber m.records) c.self.view_is (numbered_rise 0 _ c.self.invariant.2)

@@ -1,6 +1,6 @@
 -- The report on a litmus text, and why a text has none.
 use Rattle.std.specs.Prelude.{◌≡◌, ◌≢◌, ◌⊎◌, ℕ, ◌<◌, ◌≤◌, Bool, true, false, List, length, Err}
-use Rattle.std.specs.List.{list_all, AllByRecursion}
+use Rattle.std.specs.List.{list_all}
 use Rattle.litmus_lexer.specs.declared.errors.Kind.{Kind}
 use Rattle.litmus_lexer.specs.declared.errors.Kind.TheVariants.{NoMemory as LackOfMemory}
 use Rattle.litmus_lexer.specs.declared.errors.LitmusError.{LitmusError}
@@ -10,7 +10,6 @@ use Rattle.litmus_reader.specs.Grammar.{IsTest}
 use Rattle.litmus_reader.specs.Litmus.{Litmus}
 use Rattle.litmus_reader.specs.ReadingTest.{test_at}
 use Rattle.machine_table.specs.SetUp.{is_good}
-use Rattle.worker_driver.specs.SetUp.{config_of, driver_of, limit_of}
 use Rattle.report_text.specs.Ends.{ends_as}
 use Rattle.report_text.specs.Text.{litmus_text}
 use Rattle.programs.specs.declared.ends.End.TheVariants.{AllDone}
@@ -18,21 +17,13 @@ use Rattle.report_text.specs.declared.run_end.RunEnd.{RunEnd}
 use Rattle.run_options.specs.declared.options.LitmusOptions.{LitmusOptions}
 use Rattle.run_results.specs.declared.results.RunError.{RunError}
 use Rattle.run_results.specs.declared.results.RunError.TheVariants.{BadConfig, NoMemory, Litmus as Refused}
-use Rattle.worker_driver.specs.Outcomes.{HasOutcome}
-use Rattle.worker_driver.specs.Runs.{AreFrom}
+use Rattle.worker_driver.specs.AskedRuns.{AreAsked, machine_for}
 use Rattle.report.specs.Layouts.{layout_of}
 
--- the most turns of a run
-abbrev pub turns : LitmusOptions → ℕ
-turns options = limit_of options.run
-
--- the bytes are the text of a test, and these are its runs on a good machine, as many as the options ask for
+-- the bytes are the text of a test, and these are the runs of it that the options ask for
 pub record AreRuns (options : LitmusOptions) (bytes : List ℕ) (test : Litmus) (runs : List RunEnd) : Type 0 where
   pub is_test : IsTest bytes test
-  pub good : is_good (config_of options.run.machine test.threads) ≡ true
-  pub count : length runs ≡ options.runs
-  pub each : AreFrom test (config_of options.run.machine test.threads) (driver_of options.run) (turns options) 0 runs
-  pub outcomes : AllByRecursion (HasOutcome test) runs
+  pub asked : AreAsked options test runs
 
 -- the text reports on such runs, and says whether all of them ended all done
 pub record IsLitmusReport (options : LitmusOptions) (bytes : List ℕ) (all_done : Bool) (text : List ℕ) : Type 0 where
@@ -59,7 +50,7 @@ HasNoTest bytes e = ⊥
 -- why bytes have no report
 abbrev pub HasNoReport : LitmusOptions → List ℕ → RunError → Type 0
 HasNoReport options bytes BadConfig =
-    (test : Litmus) × IsTest bytes test × (is_good (config_of options.run.machine test.threads) ≡ false)
+    (test : Litmus) × IsTest bytes test × (is_good (machine_for options test) ≡ false)
 HasNoReport options bytes e = HasNoTest bytes e
 
 -- reading the bytes allocates only if they are few enough, and no fault stands before the initial block
@@ -75,7 +66,7 @@ HasNoTestInMemory bytes e = HasNoTest bytes e
 -- why a text in memory has no report; NoMemory only if reading it allocates, or the machine is good
 abbrev pub HasNoReportInMemory : LitmusOptions → List ℕ → RunError → Type 0
 HasNoReportInMemory options bytes NoMemory = ReadingAllocates bytes
-    ⊎ ((test : Litmus) × IsTest bytes test × (is_good (config_of options.run.machine test.threads) ≡ true))
+    ⊎ ((test : Litmus) × IsTest bytes test × (is_good (machine_for options test) ≡ true))
 HasNoReportInMemory options bytes e = HasNoReport options bytes e
 
 -- why a text is refused: refused memory is no fault of it

@@ -1,38 +1,30 @@
 //! Reports on texts in memory, for a caller that has no threads: the calling thread makes all runs.
-ghost use Rattle.std.specs.Prelude.{◌≡◌, IfErr, IfOk, Ok, Some, false, length, min, true};
+ghost use Rattle.std.specs.Prelude.{◌≡◌, IfErr, IfOk, Ok, Some, false, length, min};
 ghost use Rattle.std.specs.FinMap.{empty};
-ghost use Rattle.std.specs.List.{AllByRecursion};
 ghost use Rattle.byte_streams.specs.Device.{Counts, GivesBytes};
-ghost use Rattle.litmus_reader.specs.TestViews.{test_of};
-ghost use Rattle.machine_table.specs.SetUp.{is_good};
 ghost use Rattle.physiological_order.specs.Order.{flat};
-ghost use Rattle.report.specs.Litmus.{HasNoReportInMemory, IsLitmusReport, turns};
+ghost use Rattle.report.specs.Litmus.{HasNoReportInMemory, IsLitmusReport};
 ghost use Rattle.report.specs.Openings.{HasNoOpenedReport, IsOpenedReport};
 ghost use Rattle.report.specs.Reports.{HasNoRun, HasNoTraceReport, IsTraceReport, TellsTraceRun};
 ghost use Rattle.report.specs.Verdicts.{HasNoVerdict, IsCheckReport};
 ghost use Rattle.report_lines.specs.declared.layout.Layout.TheVariants.{Lines};
-ghost use Rattle.worker_driver.specs.Outcomes.{HasOutcome};
-ghost use Rattle.worker_driver.specs.Runs.{AreFrom};
-ghost use Rattle.worker_driver.specs.SetUp.{FollowsPolicy, driver_of};
+ghost use Rattle.worker_driver.specs.SetUp.{FollowsPolicy};
 
 use crate::checks::verdict_on;
-use crate::litmus::{are_all_done, test_in};
+use crate::litmus::{report_on, test_in};
 use crate::openings::opening_of;
-use crate::outputs::{Report, layout_of};
+use crate::outputs::Report;
 use crate::reports::report_by_policy;
 use crate::texts::trace_of;
 use byte_streams::{DeviceError, Source};
-use interleaving_core::Config;
-use litmus_reader::Test;
 use physiological_order::Memory;
 use report_lines::Layout;
-use report_text::{RunEnd, litmus_text};
 use run_options::{LitmusOptions, TraceOptions};
 use run_results::RunError;
 use std::alloc::{AllocError, Global};
 use std::io::Read;
 use trace_reader::Trace;
-use worker_driver::{Driver, config_of, driver_of, limit_of, policy_runs};
+use worker_driver::{Driver, asked_policy_runs, config_of, driver_of};
 
 // Bytes in memory, as a source that never fails.
 #[derive(Drop)]
@@ -77,41 +69,10 @@ pub fn litmus_report(
         Ok(test) => test,
         Err(error) => return Err(error),
     };
-    let Some(config) = config_of(&options.run.machine, test.threads() as u32) else {
-        return Err(RunError::BadConfig);
-    };
-    let Ok(runs) = runs_of(alloc, &test, config, options) else {
-        return Err(RunError::NoMemory);
-    };
-    match litmus_text(alloc, layout_of(options.json), &test, &runs) {
-        Ok(text) => Ok(Report {
-            text,
-            all_done: are_all_done(&runs),
-        }),
+    match asked_policy_runs(alloc, &test, options) {
+        Ok(Some(runs)) => report_on(alloc, &test, &runs, options),
+        Ok(None) => Err(RunError::BadConfig),
         Err(AllocError) => Err(RunError::NoMemory),
-    }
-}
-
-// The runs of the test that the options ask for, on a machine that is set up so.
-fn runs_of(
-    alloc: Global,
-    test: &Test,
-    config: Config,
-    options: &LitmusOptions,
-) -> Result<Vec<RunEnd>, AllocError>
-    requires policy { FollowsPolicy options.now.run }
-    requires good { is_good config ≡ true }
-    requires cores { config.cores ≡ (test_of test.now).threads }
-    ensures count { IfOk result (λ runs. length runs.items ≡ options.now.runs) }
-    ensures each { IfOk result (λ runs. AreFrom (test_of test.now) config
-        (driver_of options.now.run) (turns options.now) 0 runs.items) }
-    ensures outcomes { IfOk result (λ runs.
-        AllByRecursion (HasOutcome (test_of test.now)) runs.items) }
-{
-    let limit = limit_of(&options.run);
-    match driver_of(&options.run) {
-        Driver::ByPolicy(policy) => policy_runs(alloc, test, config, policy, options.runs, limit),
-        Driver::ByThreads(_) => unreachable!(),
     }
 }
 

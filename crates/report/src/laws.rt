@@ -32,7 +32,8 @@ ghost use Rattle.report.specs.Complete.{AreAll, HasRecord, IsFirstLack, count_of
 ghost use Rattle.sequential_ends.specs.Every.{values_in};
 ghost use Rattle.report.specs.Ends.{IsEndsReport};
 ghost use Rattle.report.specs.EveryText.{often_in};
-ghost use Rattle.report.specs.Litmus.{IsLitmusReport, turns};
+ghost use Rattle.report.specs.Litmus.{IsLitmusReport};
+ghost use Rattle.worker_driver.specs.AskedRuns.{turns};
 ghost use Rattle.report.specs.Reports.{IsTraceReport};
 ghost use Rattle.report.specs.Verdicts.{HasNoVerdict, IsCheckReport, IsVerdictLine};
 

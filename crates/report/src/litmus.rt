@@ -1,36 +1,27 @@
 //! From a source with a litmus text to a sink for its report.
-ghost use Rattle.std.specs.Prelude.{◌≡◌, ◌≢◌, ◌≤◌, ◌+◌, IfErr, IfOk, IsErrOf, length, true};
-ghost use Rattle.std.specs.List.{AllByRecursion, list_all};
+ghost use Rattle.std.specs.Prelude.{◌≡◌, ◌≢◌, ◌≤◌, ◌+◌, ℕ, IfErr, IfOk, IsErrOf, List};
+ghost use Rattle.std.specs.List.{list_all};
 ghost use Rattle.byte_streams.specs.Whole.{TakesAtMost};
 ghost use Rattle.litmus_reader.specs.Grammar.{IsTest};
 ghost use Rattle.litmus_reader.specs.TestViews.{test_of};
-ghost use Rattle.machine_table.specs.SetUp.{is_good};
 ghost use Rattle.report.specs.Answers.{FailuresAreCounted, IsCutOff, IsReported};
-ghost use Rattle.worker_driver.specs.SetUp.{driver_of};
 ghost use Rattle.report_text.specs.Ends.{ends_as};
 ghost use Rattle.report.specs.Bytes.{OfBytes};
-ghost use Rattle.report.specs.Litmus.{HasNoReport, HasNoReportInMemory, HasNoTestInMemory, IsLitmusReport};
-ghost use Rattle.report.specs.Litmus.{litmus_refusal, turns};
-ghost use Rattle.worker_driver.specs.Outcomes.{HasOutcome};
-ghost use Rattle.worker_driver.specs.Runs.{AreFrom};
+ghost use Rattle.report.specs.Litmus.{AreRuns, HasNoReport, HasNoReportInMemory, HasNoTestInMemory};
+ghost use Rattle.report.specs.Litmus.{IsLitmusReport, litmus_refusal};
 
 use crate::outputs::{Report, layout_of, put_out};
 use crate::sources::read_text;
 use byte_streams::{Sink, Source};
-use interleaving_core::Config;
 use litmus_reader::{Kind, LitmusError, Test, read};
 use programs::End;
 use report_text::{RunEnd, litmus_text};
 use run_options::LitmusOptions;
 use run_results::{Done, RunError};
-use shared_jobs::Free;
 use std::alloc::{AllocError, Global};
 use std::rt::Clock;
 use std::thread::Threads;
-use worker_driver::{
-    Driver, Policy, config_of, driver_of, limit_of, policy_runs, seeded_runs, threaded_runs,
-    workers_of,
-};
+use worker_driver::asked_runs;
 
 /// Reads a litmus test to the end of the source, runs it as the options say, and writes the report of the runs. Each
 /// end state in the report is an outcome of the sequential machine. If the source has more bytes than a litmus text
@@ -98,47 +89,31 @@ fn report_of<R: Threads + Clock + Sync>(
         Ok(test) => test,
         Err(error) => return Err(error),
     };
-    let Some(config) = config_of(&options.run.machine, test.threads() as u32) else {
-        return Err(RunError::BadConfig);
-    };
-    let Ok(runs) = runs_of(rt, alloc, &test, config, options) else {
-        return Err(RunError::NoMemory);
-    };
-    match litmus_text(alloc, layout_of(options.json), &test, &runs) {
-        Ok(text) => Ok(Report {
-            text,
-            all_done: are_all_done(&runs),
-        }),
+    match asked_runs(rt, alloc, &test, options) {
+        Ok(Some(runs)) => report_on(alloc, &test, &runs, options),
+        Ok(None) => Err(RunError::BadConfig),
         Err(AllocError) => Err(RunError::NoMemory),
     }
 }
 
-// The runs of the test that the options ask for, on a machine that is set up so.
-fn runs_of<R: Threads + Clock + Sync>(
-    rt: &R,
+/// The report on these runs of a test.
+pub(crate) fn report_on(
     alloc: Global,
     test: &Test,
-    config: Config,
+    runs: &[RunEnd],
     options: &LitmusOptions,
-) -> Result<Vec<RunEnd>, AllocError>
-    requires good { is_good config ≡ true }
-    requires cores { config.cores ≡ (test_of test.now).threads }
-    ensures count { IfOk result (λ runs. length runs.items ≡ options.now.runs) }
-    ensures each { IfOk result (λ runs. AreFrom (test_of test.now) config
-        (driver_of options.now.run) (turns options.now) 0 runs.items) }
-    ensures outcomes { IfOk result (λ runs.
-        AllByRecursion (HasOutcome (test_of test.now)) runs.items) }
+) -> Result<Report, RunError>
+    ensures report { IfOk result (λ report. (bytes : List ℕ) →
+        AreRuns options.now bytes (test_of test.now) runs.now →
+        IsLitmusReport options.now bytes report.all_done report.text.items) }
+    ensures refused { IfErr result (λ e. e ≡ RunError.NoMemory) }
 {
-    let run = &options.run;
-    let (count, limit, workers) = (options.runs, limit_of(run), workers_of(run));
-    match driver_of(run) {
-        Driver::ByPolicy(Policy::Seed(first)) => {
-            seeded_runs(rt, alloc, test, config, first, count, limit, workers, &Free)
-        }
-        Driver::ByPolicy(policy) => policy_runs(alloc, test, config, policy, count, limit),
-        Driver::ByThreads(fair) => {
-            threaded_runs(rt, alloc, test, config, count, limit, workers, fair, &Free)
-        }
+    match litmus_text(alloc, layout_of(options.json), test, runs) {
+        Ok(text) => Ok(Report {
+            text,
+            all_done: are_all_done(runs),
+        }),
+        Err(AllocError) => Err(RunError::NoMemory),
     }
 }
 
@@ -153,8 +128,8 @@ fn refusal(error: LitmusError) -> RunError
     }
 }
 
-/// Whether every run ended all done.
-pub(crate) fn are_all_done(runs: &[RunEnd]) -> bool
+// Whether every run ended all done.
+fn are_all_done(runs: &[RunEnd]) -> bool
     ensures { result ≡ list_all (ends_as End.AllDone) runs.now }
 {
     runs.iter().all(|run| matches!(run.end, End::AllDone))

@@ -3,6 +3,7 @@
 #![tactic(auto)]
 
 mod batches;
+mod by_options;
 mod finished;
 pub mod laws;
 mod one_run;
@@ -12,6 +13,7 @@ mod shared_runs;
 mod threads;
 
 pub use batches::{batch, policy_runs, seeded_runs};
+pub use by_options::{asked_policy_runs, asked_runs};
 pub use finished::Finished;
 pub use programs::{End, OpProgram, Program, Step, StepProgram};
 pub use report_text::RunEnd;

@@ -22,4 +22,4 @@ pub returns : goal.returns
 returns c = λ options bounds bytes text list all_done done told listed.
     let same = c.one_text_is_one_test.ensures bytes told.test listed.test told.are_runs.is_test listed.is_test in
     are_listed listed.test (values_in listed.every) listed.lists.all told.runs
-    (subst (λ (test : Litmus). AllByRecursion (HasOutcome test) told.runs) same told.are_runs.outcomes)
+    (subst (λ (test : Litmus). AllByRecursion (HasOutcome test) told.runs) same told.are_runs.asked.outcomes)

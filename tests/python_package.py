@@ -417,6 +417,13 @@ def long():
         fail(f"a report that is put twice: {report}")
 
 
+# A load by hand, and a store to another line, which goes back to the bank and to DRAM. Where no word has opened with
+# another value than 0, DRAM takes its first memory then, in the delivery of m9.
+STORED = ("issue 1 R 0x8", "attempt 1", *(f"deliver m{number}" for number in (0, 1, 2, 0, 3)), "attempt 1",
+          "issue 1 W 0x10 6", "attempt 1", *(f"deliver m{number}" for number in (4, 5, 6, 4, 7)), "attempt 1",
+          "evict core 1 0x10", "deliver m8", "evict bank 0 0x10", "deliver m9", "deliver m10")
+
+
 def refused_memory():
     """A machine over a library that counts the blocks that it holds, and refuses one growth (tests/refusing.c)."""
     library = tardis.library.loaded()
@@ -433,22 +440,20 @@ def refused_memory():
                 return came, times
         return fail("memory is refused again")
 
-    # A load by hand, of a word that opens with 5; a store to another line, which goes back to the bank, and to DRAM as the
-    # first value there.
-    events = ("issue 1 R 0x8", "attempt 1", *(f"deliver m{number}" for number in (0, 1, 2, 0, 3)), "attempt 1",
-              "issue 1 W 0x10 6", "attempt 1", *(f"deliver m{number}" for number in (4, 5, 6, 4, 7)), "attempt 1",
-              "evict core 1 0x10", "deliver m8", "evict bank 0 0x10", "deliver m9", "deliver m10")
+    met = set()  # the events to which memory was refused
 
-    def made():
-        """Makes them; how often memory was refused."""
-        opened, often = refused(lambda: tardis.Machine(memory={8: 5}))
+    def made(opening):
+        """Makes these events over an opening memory; how often memory was refused."""
+        opened, often = refused(lambda: tardis.Machine(memory=opening))
         answers = []
-        for event in events:
+        for event in STORED:
             came, times = refused(lambda: opened.run(event)[0])
             answers.append(came)
+            met.update([event] * times)
             often += times
-        records = [came.record for came in answers if came.record]
-        if records != [tardis.Record(1, 0, "R", 8, None, 5, 0, 0), tardis.Record(1, 1, "W", 16, 6, None, 1, 1)] or \
+        wanted = [tardis.Record(1, 0, "R", 8, None, opening.get(8, 0), 0, 0),
+                  tardis.Record(1, 1, "W", 16, 6, None, 1, 1)]
+        if [came.record for came in answers if came.record] != wanted or \
                 [came.name for came in answers[-4:]] != ["delivered", "evicted", "delivered", "delivered"]:
             fail(f"events, where memory was refused: {answers}")
         for look, wanted in ((lambda: opened.copies(1), [8]), (lambda: opened.entries(0), [8]), (opened.check, "legal"),
@@ -459,16 +464,17 @@ def refused_memory():
                 fail(f"a look-up, where memory was refused: {came}")
         return often
 
-    at.value = growths.value = 0
-    made()
-    most, before = growths.value, held.value
-    for at.value in range(1, most + 1):
-        growths.value = 0  # a list that can't grow ahead grows by as much as it needs, once more
-        if not made() and growths.value != most + 1 or held.value != before:
-            fail(f"growth {at.value} of {most} isn't met, or {held.value} blocks are held, not {before}")
+    for opening in ({8: 5}, {}):
+        at.value = growths.value = 0
+        made(opening)
+        most = growths.value
+        for at.value in range(1, most + 1):
+            growths.value = 0  # a list that can't grow ahead grows by as much as it needs, once more
+            if not made(opening) and growths.value != most + 1 or held.value:
+                fail(f"growth {at.value} of {most} isn't met, or {held.value} blocks are held")
     at.value = 0
-    if most < 10 or before:
-        fail(f"{most} growths, and {before} blocks held")
+    if most < 30 or "deliver m9" not in met:
+        fail(f"{most} growths, and memory refused to {met}")
     opened = tardis.Machine()
     if held.value == 0:
         fail("a machine holds nothing")

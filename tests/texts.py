@@ -250,11 +250,16 @@ def sizes(tester):
     tester.refuses("line 4: 2 TooLarge", front + b"exists " + b"(" * (65536 - len(front) - 7))
     tester.refuses("line 4: 2 TooLarge", front + b"exists " + b"(" * 65)
     tester.refuses("line 4: 14 CutShort", front + b"exists " + b"(" * 64)
-    tester.refuses("line 16777217: 3 TooLong", b"\n" * 16777216 + b"0", "trace", "/dev/stdin")
+    most_lines(tester)
     many, counts = 70000, "issued 210000\ncompleted 210000\nend all-done\nloads 70000\nstores 70000\nswaps 70000\n"
     tester.refuses(None, b"0 R 0x0\n0 W 0x0 1\n0 S 0x0 2\n" * many, "trace", "--limit", "4294967295", "/dev/stdin",
                    accepted=counts)
     line_sizes(tester)
+
+
+def most_lines(tester):
+    """A trace of as many lines as there may be, and one beyond."""
+    tester.refuses("line 16777217: 3 TooLong", b"\n" * 16777216 + b"0", "trace", "/dev/stdin")
 
 
 def line_sizes(tester):

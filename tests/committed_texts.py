@@ -70,10 +70,11 @@ def second_tester():
 
 
 def of_command_lines(tester):
-    """Bad configurations and unfair schedules: the command lines that the second program refuses in the same words."""
+    """Bad configurations, and options that can't be had together: the command lines that the second program refuses in
+    the same words."""
     from tests import texts, words
     for status, heads, answer in words.blocks():
-        if "bad configuration" in answer or "'--fair' needs" in answer:
+        if re.search("bad configuration|' needs? '--|' cannot be used with '", answer):
             error = answer + (texts.MORE if answer.startswith("error: ") else "\n")
             for line in heads:
                 tester.expect(tester.run(*shlex.split(line)[2:]) == (status, "", error), line)

@@ -179,6 +179,8 @@ CELLS = [("lw x7,4(x6)", "8", "offset"), ("fence", "8", "two sets"), ("amoswap.w
          ("ori x5,x0,4000", "9", "2047"), ("li x5,2147483648", "9", "2147483647"), ("sd x5,0(x6)", "10", "`lw`, `sw`"),
          ("sw x6,0(x6)", "11", "the address"), ("lw x7,0(x8)", "12", "lacks this thread's address, as `0:x6=x`.")]
 TEXTS = [
+    (".litmus", f"{PLAIN}{OPENING} li x5,1 | ;\n sw x5,0(x6) | sd x5,0(x6) ;\nexists x=0\n", [
+        "line 5, P1: `sd x5,0(x6)`", "  10 "]),
     (".litmus", PLAIN + "(* a *)\n" + OPENING + "exists x=0\n", ["line 2, `(* a *)`", "4 BadHeader", "from_herd"]),
     (".litmus", PLAIN + "\"\u201c\"\n" + OPENING + "exists x=0\n", ["line 2, `\"\\xe2\\x80\\x9c\"`", "3 BadByte"]),
     (".litmus", "AArch64 T\n" + OPENING + "exists x=0\n", ["line 1, `AArch64 T`", "4 BadHeader", "Only `RISCV`"]),

@@ -15,9 +15,9 @@ comes by this says so. A program that takes ten seconds of processor time more t
 stopped, and its mutant counts as noticed.
 
 What was tried is kept in a file, and what was built in a folder, so a run that was interrupted goes on. After another
-commit what survived is tried again, and so is what survived a run by some commands (--by) alone. The survivors are printed, and those that no command comes by, each with its
-function, and at the end how many were noticed, and by what first. A row of tests/binary_mutants.table, `FUNCTION |
-BEFORE => AFTER | REASON`, says why one may survive.
+commit what survived is tried again, and so is what survived a run by some commands (--by) alone. The survivors are
+printed, and those that no command comes by, each with its function, and at the end how many were noticed, and by what
+first. A row of tests/binary_mutants.table, `FUNCTION | BEFORE => AFTER | REASON`, says why one may survive.
 """
 import argparse
 import contextlib

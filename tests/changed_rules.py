@@ -12,10 +12,10 @@ function, and others of the same definitions took their places:
 - `tried` of mailboxes: a completion counts two. The second program reads that count nowhere.
 - `Left` of closed_machine: held messages don't count as owners. No seat holds a message that carries ownership.
 - `after_held`: the last of the held messages that is the served one. There is one.
-- `is_progress` of schedules: a dropped recall is no progress of a round. It never is the only one. A core drops a recall
-  once the line has come back to the bank, which freed a place. If all places are taken again, a younger message has the
-  last one. It is delivered behind the recall, finds the place that this leaves, and makes progress. That leaves a core
-  that was issued as many operations as it may be.
+- `is_progress` of schedules: a dropped recall is no progress of a round. It never is the only one. A core drops a
+  recall once the line has come back to the bank, which freed a place. If all places are taken again, a younger message
+  has the last one. It is delivered behind the recall, finds the place that this leaves, and makes progress. That leaves
+  a core that was issued as many operations as it may be.
 
 Of calls from C only numbers of refusals and what records lack are stated. Of laws nothing is: they run nowhere.
 """

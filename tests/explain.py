@@ -114,7 +114,8 @@ RUNS = [
     (LIVELOCK.format("--fair --json --counts --every 1 "), 0, ["nothing is wrong, all is done"]),
     ("litmus --seed 4 examples/litmus/SB+yes.litmus", 0, ["nothing is wrong", "--seed means nothing by rounds"]),
     # Seed 7 would take 15 turns, but a trace has one run.
-    ("trace --schedule seed --seed 6 --limit 9 examples/traces/FIRST-STORE.trace", 0, ["nothing is wrong, all is done"]),
+    ("trace --schedule seed --seed 6 --limit 9 examples/traces/FIRST-STORE.trace", 0, [
+        "nothing is wrong, all is done"]),
     (LIVELOCK.format("--fair --limit 11 "), 1, [
         "end limit: 2 operations of 3 issued are completed after turn 11", "Cause: too few turns.",
         "the last in turn 9", "  core 2 waits for line 0x0 of bank 0 since turn 1 (R 0x0)",

@@ -165,7 +165,8 @@ def main():
     wrong += defaults()
     wrong += page_players()
     wrong += launched()
-    print("\n".join([*wrong, f"{len(tools) + 2 * len(READERS) + len(PIPED) + len(NUMBERS) + 9} tried, {len(wrong)} wrong"]))
+    tried = len(tools) + 2 * len(READERS) + len(PIPED) + len(NUMBERS) + 9
+    print("\n".join([*wrong, f"{tried} tried, {len(wrong)} wrong"]))
     return int(bool(wrong))
 
 

@@ -15,9 +15,9 @@ comes by this says so. A program that takes ten seconds of processor time more t
 stopped, and its mutant counts as noticed.
 
 What was tried is kept in a file, and what was built in a folder, so a run that was interrupted goes on. After another
-commit what survived is tried again. The survivors are printed, and those that no command comes by, each with its
-function, and at the end how many were noticed, and by what first. A row of tests/binary_mutants.table, `FUNCTION |
-BEFORE => AFTER | REASON`, says why one may survive.
+commit what survived is tried again, and so is what survived a run by some commands (--by) alone. The survivors are
+printed, and those that no command comes by, each with its function, and at the end how many were noticed, and by what
+first. A row of tests/binary_mutants.table, `FUNCTION | BEFORE => AFTER | REASON`, says why one may survive.
 """
 import argparse
 import contextlib
@@ -309,10 +309,10 @@ class Tried:
                        and not (command in self.alone and self.alone[command].isdisjoint(others)))
 
 
-def asked(rooms, name, mutants, kept):
-    """Has the gate's commands try the mutants: what became of each, which ones any comes by, and how many commands
-    there are."""
-    keys = [("command", name, kept.tree, each) for each in rooms[0].commands()]
+def asked(rooms, name, mutants, kept, by=""):
+    """Has the gate's commands try the mutants, or those that match: what became of each, which ones any comes by, and
+    how many commands there are."""
+    keys = [("command", name, kept.tree, each) for each in rooms[0].commands() if re.search(by, each)]
     all_of(rooms, [key for key in keys if key not in kept.told], lambda room, new: timed(room, new, kept))
     commands = {key[3]: (*kept.told[key][:2], set(kept.told[key][2]), *kept.told[key][3:])
                 for key in keys if kept.told[key]}
@@ -320,15 +320,19 @@ def asked(rooms, name, mutants, kept):
     all_of(rooms, [key for key in calls if key not in kept.told], lambda room, new: answered(room, new, kept))
     trying = Tried(Asking(kept), commands, {key[2]: kept.told[key] and (*kept.told[key][:2], set(kept.told[key][2]))
                                             for key in calls})
+    survived = set()
 
     def try_some(room, some):
         for key in iter(lambda: taken(some), None):
-            kept.tell(key, trying.tried(room, key))
+            if (said := trying.tried(room, key)) or not by:
+                kept.tell(key, said)
+            else:
+                survived.add(key)  # others may notice it
 
     wanted = [("mutant", name, number) for number in mutants]
     all_of(rooms, [key for key in wanted if key not in kept.told], try_some)
     met = set().union(*(met for _, _, met, *_ in commands.values()))
-    return {key[2]: kept.told[key] for key in wanted}, met, len(commands)
+    return {key[2]: None if key in survived else kept.told[key] for key in wanted}, met, len(commands)
 
 
 def all_of(rooms, keys, work):
@@ -459,6 +463,9 @@ def self_test_of_asking(path):
                       events: (5, [1, 5, 6], [6], "xy")}, {"x": ([1, 5], [5]), "y": ([1, 6], [6])})
     mutants = {number: ("a::f", number, "a => b") for number in range(1, 7)}
     told = {1: None, 2: ["quick", "status 1"], 3: ["slow", "status 1"], 4: None, 5: None, 6: [events, "status 1"]}
+    came = asked([room], "built", mutants, Kept(path), "quick")
+    if came != ({number: told[number] if number == 2 else None for number in mutants}, {1, 2}, 1):
+        yield f"what becomes of mutants by one command: {came}"
     for again in range(2):
         came = asked([room], "built", mutants, Kept(path))
         if came != (told, {1, 2, 3, 5, 6}, 3):
@@ -507,6 +514,7 @@ def parsed(words):
     parser.add_argument("--sample", type=int, default=500, metavar="N", help="how many mutants (500)")
     parser.add_argument("--seed", type=int, default=1, metavar="N", help="what draws them (1)")
     parser.add_argument("--only", default="", metavar="NAME", help="only of functions whose path has these letters")
+    parser.add_argument("--by", default="", metavar="REGEX", help="only by commands that match (all)")
     parser.add_argument("--jobs", type=int, default=os.cpu_count(), metavar="N", help="how many at a time")
     parser.add_argument("--kept", type=Path, metavar="FILE",
                         help="what was tried (/tmp/tardis_mutants/binary-COMMIT-SEED.kept)")
@@ -522,7 +530,7 @@ def main(words):
     print(f"what is tried is kept in {kept.path}", file=sys.stderr)
     with tempfile.TemporaryDirectory() as place:
         rooms = [Changed(f"{place}/{number}", folder) for number in range(options.jobs)]
-        told, met, count = asked(rooms, name, mutants, kept)
+        told, met, count = asked(rooms, name, mutants, kept, options.by)
     counts = judged(mutants, told, met)
     print(f"{len(mutants)} mutants of {of}, seed {options.seed}, by {count} commands: {counts['noticed']} noticed, "
           f"{counts['slow']} of them by their time, {counts['excused']} in tests/binary_mutants.table, "

@@ -12,6 +12,10 @@ function, and others of the same definitions took their places:
 - `tried` of mailboxes: a completion counts two. The second program reads that count nowhere.
 - `Left` of closed_machine: held messages don't count as owners. No seat holds a message that carries ownership.
 - `after_held`: the last of the held messages that is the served one. There is one.
+- `is_progress` of schedules: a dropped recall is no progress of a round. It never is the only one. A core drops a
+  recall once the line has come back to the bank, which freed a place. If all places are taken again, a younger message
+  has the last one. It is delivered behind the recall, finds the place that this leaves, and makes progress. That leaves
+  a core that was issued as many operations as it may be.
 
 Of calls from C only numbers of refusals and what records lack are stated. Of laws nothing is: they run nowhere.
 """
@@ -222,8 +226,8 @@ ROWS = rows_of("machine", [
     (THREADS, "InARow of thread_driver", "IN_A_ROW = 16", "IN_A_ROW = 15", "15 turns in a row"),
     (THREADS, "RoomMadeIf of thread_driver", "if self.fair and not moved:", "if self.fair:", "also after progress"),
 ]) + rows_of("schedules", [
-    (REPORTS, "is_progress of schedules", '("Waiting", "Held", "Busy",', '("Waiting", "Held", "Dropped", "Busy",',
-     "a dropped message is no progress"),
+    (REPORTS, "is_progress of schedules", '("Waiting", "Held", "Busy",', '("Waiting", "Busy",',
+     "a held message is progress"),
     (REPORTS, "is_over of schedules", "if self.turns == limit:", "if self.turns > limit:", "one turn more"),
     (REPORTS, "deliveries of schedules", "    for number in sorted(run.machine.flight):\n        run.deliver(",
      "    for number in sorted(run.machine.flight)[::-1]:\n        run.deliver(", "the last message first"),

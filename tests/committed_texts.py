@@ -22,7 +22,7 @@ from pathlib import Path
 TOP = Path(__file__).resolve().parent.parent
 sys.path.insert(0, str(TOP))
 
-LONG = re.compile(r"limits|full\.seats|\.seeds|SEED-|THOUSAND|places")
+LONG = re.compile(r"limits|full\.seats|\.seeds|SEED-|THOUSAND|places|texts\.py lines")
 SHORT = re.compile(r"(?:leases|placement|evictions|refusals)\.events|closing\.seats|\.table|(?:ends|reports)\.py by|"
                    r"texts\.py faults")
 WHICH = {"short": SHORT.search, "long": LONG.search, "usual": lambda name: not LONG.search(name),
@@ -70,10 +70,11 @@ def second_tester():
 
 
 def of_command_lines(tester):
-    """Bad configurations and unfair schedules: the command lines that the second program refuses in the same words."""
+    """Bad configurations, and options that can't be had together: the command lines that the second program refuses in
+    the same words."""
     from tests import texts, words
     for status, heads, answer in words.blocks():
-        if "bad configuration" in answer or "'--fair' needs" in answer:
+        if re.search("bad configuration|' needs? '--|' cannot be used with '", answer):
             error = answer + (texts.MORE if answer.startswith("error: ") else "\n")
             for line in heads:
                 tester.expect(tester.run(*shlex.split(line)[2:]) == (status, "", error), line)
@@ -92,11 +93,13 @@ def of_lists(tester):
             if most == bound:
                 lines = out.splitlines()
                 tester.expect((lines[2], lines[-1]) == (f"states {states}", last), text)
+    got = tester.run("ends", "--orders", "/dev/stdin", text=ends.UNNAMED.encode())
+    tester.expect(got == (0, ends.FIRST_ORDER, ""), got)
 
 
 def of_scripts():
     """Each part of a script with expected outputs of its own, and whether the second program's differ."""
-    from tests import expected, json_reports, texts, trace_counts
+    from tests import expected, json_reports, streams, texts, trace_counts
 
     def differs(part, *folder):
         tester = second_tester()
@@ -108,6 +111,7 @@ def of_scripts():
     yield "examples/*.table", lambda: any(expected.differing_rows())
     for name in ("faults", "ends", "cuts", "places", "limits"):
         yield f"texts.py {name}", lambda name=name: differs(texts.PARTS[name])
+    yield "texts.py lines", lambda: differs(texts.most_lines)
     yield "words.table", lambda: differs(of_command_lines)
     yield "ends.py by hand", lambda: differs(of_lists)
     for name in ("1,000,000 loads", "66,000 requests"):  # minutes, in Python
@@ -115,6 +119,7 @@ def of_scripts():
     with tempfile.TemporaryDirectory() as folder:
         for name, text in json_reports.FILES.items():
             Path(folder, name).write_text(text, encoding="ascii")
+        yield "streams.py by hand", lambda: not streams.is_known(Path(folder, "some.trace"))
         yield "json_reports.py by hand", lambda: differs(json_reports.by_hand, folder)
         yield "trace_counts.py by hand", lambda: differs(trace_counts.by_hand, folder)
         yield "trace_counts.py rows", lambda: differs(trace_counts.in_rows, folder)

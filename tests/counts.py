@@ -310,6 +310,9 @@ def refusals(tester):
     tester.refused("false ended with status 1, without counts", "--program", "false", str(trace))
     tester.refused("1 operations completed: --skip 1 leaves none", *counting, "--skip", "1", str(trace))
     tester.refused("0 isn't a number from 1 to 18446744073709551615", *counting, "--every", "0", str(trace))
+    for name in ("--every", "--skip"):
+        tester.refused(f"{2 ** 64} isn't a number from 1 to 18446744073709551615", *counting, name, str(2 ** 64),
+                       str(trace))
     tester.refused("--columns turns: there are events, held, dropped, loads,", *counting, "--columns", "hits,turns",
                    str(trace))
     _, out, _ = tester.run(*played, "--cores", "1", str(tester.file("0 R 0x0\n1 R 0x8\n")))

@@ -73,6 +73,23 @@ condition exists
 held 0
 observation SB Never 0 3
 """
+# A load that the condition doesn't name: two orders lead to the one end, and that of thread 0 is the first. The layers
+# have 1, 2 and 2 states, since what was received counts.
+UNNAMED = """RISCV UNNAMED
+{ 0:x6=x; 1:x5=1; 1:x6=x; }
+P0 | P1 ;
+lw x7,0(x6) | sw x5,0(x6) ;
+exists x=1
+"""
+FIRST_ORDER = """test UNNAMED
+threads 2
+states 5
+ends 1
+* x=1   P0:1 P1:1
+condition exists
+held 1
+observation UNNAMED Always 1 0
+"""
 # Two stores: each is the last once, and 9 comes before 10. Its three layers have 1, 2 and 2 states.
 NUMBERS = """RISCV NUMBERS
 { 0:x5=10; 0:x6=x; 1:x5=9; 1:x6=x; }
@@ -276,6 +293,7 @@ def texts():
     """What is compared, each with its name."""
     for path in sorted([*TOP.glob("examples/litmus/*.litmus"), *TOP.glob("examples/outcomes/*.litmus")]):
         yield path.stem, path.read_text(encoding="ascii")
+    yield "UNNAMED", UNNAMED
     for edges in cycles.family(EDGES):
         yield cycles.name_of(edges), "\n".join(cycles.Cycle(edges).test()) + "\n"
     for number in range(RANDOM):
@@ -317,6 +335,8 @@ def by_hand(tester):
         tester.expect(ends in (listed, len(listed)), f"{lines} of {text}")
     got = tester.run("--orders", str(TOP / SB))
     tester.expect(got == (0, ORDERS, ""), f"orders: {got}")
+    got = tester.run("--orders", "/dev/stdin", text=UNNAMED.encode())
+    tester.expect(got == (0, FIRST_ORDER, ""), f"the first order: {got}")
     got = tester.run("--orders", "/dev/stdin", text=NOTHING.encode())
     tester.expect("\n  x=0 y=3\n" in got[1], f"no turn: {got}")
     for states in REFUSED:

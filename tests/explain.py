@@ -113,6 +113,9 @@ RUNS = [
     (LIVELOCK.format("--fair "), 0, ["nothing is wrong, all is done"]),
     (LIVELOCK.format("--fair --json --counts --every 1 "), 0, ["nothing is wrong, all is done"]),
     ("litmus --seed 4 examples/litmus/SB+yes.litmus", 0, ["nothing is wrong", "--seed means nothing by rounds"]),
+    # Seed 7 would take 15 turns, but a trace has one run.
+    ("trace --schedule seed --seed 6 --limit 9 examples/traces/FIRST-STORE.trace", 0, [
+        "nothing is wrong, all is done"]),
     (LIVELOCK.format("--fair --limit 11 "), 1, [
         "end limit: 2 operations of 3 issued are completed after turn 11", "Cause: too few turns.",
         "the last in turn 9", "  core 2 waits for line 0x0 of bank 0 since turn 1 (R 0x0)",
@@ -177,6 +180,8 @@ CELLS = [("lw x7,4(x6)", "8", "offset"), ("fence", "8", "two sets"), ("amoswap.w
          ("ori x5,x0,4000", "9", "2047"), ("li x5,2147483648", "9", "2147483647"), ("sd x5,0(x6)", "10", "`lw`, `sw`"),
          ("sw x6,0(x6)", "11", "the address"), ("lw x7,0(x8)", "12", "lacks this thread's address, as `0:x6=x`.")]
 TEXTS = [
+    (".litmus", f"{PLAIN}{OPENING} li x5,1 | ;\n sw x5,0(x6) | sd x5,0(x6) ;\nexists x=0\n", [
+        "line 5, P1: `sd x5,0(x6)`", "  10 "]),
     (".litmus", PLAIN + "(* a *)\n" + OPENING + "exists x=0\n", ["line 2, `(* a *)`", "4 BadHeader", "from_herd"]),
     (".litmus", PLAIN + "\"\u201c\"\n" + OPENING + "exists x=0\n", ["line 2, `\"\\xe2\\x80\\x9c\"`", "3 BadByte"]),
     (".litmus", "AArch64 T\n" + OPENING + "exists x=0\n", ["line 1, `AArch64 T`", "4 BadHeader", "Only `RISCV`"]),
@@ -238,6 +243,8 @@ WARNED = [
     ("RISCV T\n{ 0:x6=x; 0:x8=y; 0:x5=1; }\n P0 ;\n sw x5,0(x6) ;\nexists x=1\n", [
         "0:x8=y: no instruction of P0 uses that address"]),
     ("RISCV T\n{ 0:x6=x; }\n P0 ;\n sw x5,0(x6) ;\nexists (x=1)\n", ["P0 stores x5, which nothing has set: it is 0"]),
+    ("RISCV T\n{ 0:x6=x; 1:x5=1; 1:x6=x; }\n P0 | P1 ;\n sw x5,0(x6) | sw x5,0(x6) ;\nexists (x=1)\n", [
+        "P0 stores x5, which nothing has set: it is 0"]),
     ("RISCV T\n{ 0:x6=x; x=3; }\n P0 ;\n lw x5,0(x6) ;\nexists (x=1 /\\ 0:x5=3)\n", [
         "x in the condition: no instruction stores it, so it is always 3"]),
     ("RISCV T\n{ 0:x6=x; 0:x7=2; }\n P0 ;\n amoswap.w x5,x7,(x6) ;\nexists (0:x7=1)\n", [

@@ -383,6 +383,9 @@ def kept_in_files(folder, test):
             yield f"cut: {cut}"
         if ran(*words, "--resume", kept, test).stdout != once.stdout:
             yield f"a search that was saved ends otherwise, with {words}"
+    least = ran("--states", 1, test)  # the start alone, which isn't looked at
+    if least.returncode != 3 or "\nstates 1\nexplored 0\n" not in least.stdout:
+        yield f"one state: {least}"
     if ran("--resume", kept, test).returncode != 2:
         yield "a search goes on with other words"
     if ran("--whole", "--resume", kept, TOP / "examples/litmus/MP.litmus").returncode != 2:

@@ -5,9 +5,10 @@ Help comes on standard output, with status 0, and no tool writes a file of the r
 a tool without a word. For a missing file and one of another kind, each tool writes one line and ends with status 2;
 reference/oracle.py ends with status 4 for a missing one. The script also tries tools/page.py in copies of the
 repository: who plays, if the proved player isn't built, is built, or is older than a source; and what ./tardis and
-./tardis --unproved hand on. The last line is `N tried, M wrong`.
+./tardis --unproved hand on; and what tools take for options that aren't given. The last line is `N tried, M wrong`.
 """
 import os
+import re
 import shutil
 import subprocess
 import sys
@@ -15,6 +16,8 @@ import tempfile
 from pathlib import Path
 
 sys.path.insert(0, str(Path(__file__).resolve().parent.parent))
+from reference.calls import OPTIONS  # noqa: E402
+from reference.given import NUMBERS  # noqa: E402
 from tests.texts import TOP, ran as ended  # noqa: E402
 
 FOLDERS = ("reference", "tools", "maintain")
@@ -55,6 +58,15 @@ def pipes():
         told = ran(["sh", "-c", f"{words} | head -n 1"])
         if told.stderr or told.stdout.count("\n") != 1:
             yield f"{words} | head -n 1: {told.stdout!r}, {told.stderr[-160:]!r}"
+
+
+def defaults():
+    """Faults in what the tools take where an option isn't given: docs/TEXTS.md says it, and so do the options of texts
+    of events."""
+    text = (TOP / "docs/TEXTS.md").read_text(encoding="utf-8")
+    for name, (usual, _) in NUMBERS.items():
+        if not re.search(rf"^--{name} {usual} +\S", text, re.M) or OPTIONS.get(name, (usual,))[0] != usual:
+            yield f"--{name} is {usual} where it isn't given: docs/TEXTS.md or the texts of events say otherwise"
 
 
 def page_players():
@@ -150,9 +162,11 @@ def main():
         if got.returncode != wanted or got.stdout or got.stderr.count("\n") != 1:
             wrong.append(f"{words.format(path)}: status {got.returncode}, {got.stderr[-160:]!r}")
     wrong += pipes()
+    wrong += defaults()
     wrong += page_players()
     wrong += launched()
-    print("\n".join([*wrong, f"{len(tools) + 2 * len(READERS) + len(PIPED) + 9} tried, {len(wrong)} wrong"]))
+    tried = len(tools) + 2 * len(READERS) + len(PIPED) + len(NUMBERS) + 9
+    print("\n".join([*wrong, f"{tried} tried, {len(wrong)} wrong"]))
     return int(bool(wrong))
 
 

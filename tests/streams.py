@@ -235,9 +235,23 @@ def written_before(words):
     raise AssertionError(f"{words}: no fault")
 
 
+# Two cores' loads of their own lines, which complete in the sixth round, and one more load of core 1. The next step of
+# core 0 isn't known then, so no seventh round is made: by hand, the most that may be written.
+UNKNOWN = b"0 R 0x0\n1 R 0x8\n1 R 0x8\n0 X\n"
+KNOWN = "0 0 R 0x0 0 0 0\n1 0 R 0x8 0 0 1\n"
+
+
+def is_known(path):
+    """Whether the second program says the same."""
+    path.write_bytes(UNKNOWN)
+    return written_before(["--records", "--cores", "2", str(path)]) == KNOWN
+
+
 def faults(tester, folder):
     """Each kind of fault in the first line, behind a few, and behind more than are read ahead, in both forms."""
     path = Path(folder, "bad.trace")
+    tester.covers(is_known(path), "what may be written where a core's next step isn't known")
+    faulty(tester, path, UNKNOWN, "line 4: 5 BadOperation", "--cores", "2")
     few, many = b"0 W 0x0 1\n\n1 R 0x0\n0 R 0x8\n1 S 0x0 2 # x\n", b"0 R 0x0\n1 W 0x8 3\n" * AHEAD
     for fault, text in rows(TOP / "examples/bad/traces.table"):
         faulty(tester, path, of_printf(text), fault)

@@ -223,6 +223,47 @@ def every_byte(tester):
             tester.refuses(fault, text, "trace", "/dev/stdin", accepted=accepted)
     for byte in {*range(256)} - {9, 10, 13, *range(32, 127)}:
         tester.refuses("line 2: 3 BadByte", b"RISCV A\nk=" + bytes([byte]) + b"\n" + REST.encode())
+    bytes_of_tokens(tester)
+
+
+BLANKS, DIGITS = b" \t\r", b"0123456789"
+LETTERS = b"ABCDEFGHIJKLMNOPQRSTUVWXYZabcdefghijklmnopqrstuvwxyz"
+NAMES = LETTERS + DIGITS + b"_"
+# Of a litmus text: what stands before a byte and behind it; the bytes that may be there; the fault of others; and other
+# faults by the byte. It stands in a name or before one, behind a thread, and in cells.
+NAMED = [
+    (b"RISCV a", b"a\n{ }\n P0 ;\nexists (x=0)\n", NAMES + b"+.-[]", "line 1: 4 BadHeader",
+     {b"\n": "line 2: 4 BadHeader"}),
+    (b"RISCV A\n", b"k=1\n{ }\n P0 ;\nexists (x=0)\n", LETTERS + BLANKS + b"\n", "line 2: 4 BadHeader",
+     {b"{": "line 3: 5 BadInitial"}),
+    (b"RISCV A\nk", b"k=1\n{ }\n P0 ;\nexists (x=0)\n", NAMES + b"=", "line 2: 4 BadHeader", {}),
+    (b"RISCV A\n{ ", b"k=1; }\n P0 ;\nexists (x=0)\n", LETTERS + b"_\n" + BLANKS, "line 2: 5 BadInitial", {}),
+    (b"RISCV A\n{ k", b"k=1; }\n P0 ;\nexists (x=0)\n", NAMES, "line 2: 5 BadInitial",
+     {b"\n": "line 3: 5 BadInitial"}),
+    (b"RISCV A\n{ }\n P0 ;\nexists (", b"y=0)\n", LETTERS + b"_\n" + BLANKS, "line 4: 13 BadCondition",
+     {b"(": "line 4: 14 CutShort"}),
+    (b"RISCV A\n{ }\n P0 ;\nexists (x", b"x=0)\n", NAMES, "line 4: 13 BadCondition",
+     {b"\n": "line 5: 13 BadCondition"}),
+    (b"RISCV A\n{ }\n P0 ;\nexists (0", b":x5=0)\n", BLANKS + b"\n", "line 4: 13 BadCondition", {}),
+    (b"RISCV A\n{ }\n P0", b" ;\nexists (x=0)\n", BLANKS, "line 3: 7 BadTable", {}),
+    (b"RISCV A\n{ 0:x6=x; }\n P0 ;\n ", b"sw x5,0(x6) ;\nexists (x=0)\n", BLANKS + b"\n", "line 4: 8 BadInstruction",
+     dict.fromkeys((b";", b"|"), "line 4: 7 BadTable")),
+    (b"RISCV A\n{ 0:x6=x; }\n P0 ;\n sw x5", b",0(x6) ;\nexists (x=0)\n", BLANKS, "line 4: 8 BadInstruction",
+     dict.fromkeys((b";", b"|", b"\n"), "line 4: 7 BadTable")),
+    (b"RISCV A\n{ }\n P0 ;\n li x5,1", b" ;\nexists (x=0)\n", DIGITS + BLANKS, "line 4: 8 BadInstruction",
+     dict.fromkeys((b";", b"|", b"\n"), "line 4: 7 BadTable")),
+]
+
+
+def bytes_of_tokens(tester):
+    """Every byte at these places of a litmus text."""
+    for front, behind, good, fault, others in NAMED:
+        for byte in map(bytes, zip(range(256))):
+            if byte != b"\n" and byte not in BLANKS and not b"!" <= byte <= b"~":
+                told = f"line {front.count(10) + 1}: 3 BadByte"
+            else:
+                told = None if byte in good else others.get(byte, fault)
+            tester.refuses(told, front + byte + behind, accepted="" if told else "verdict yes\n")
 
 
 def sizes(tester):
@@ -250,11 +291,16 @@ def sizes(tester):
     tester.refuses("line 4: 2 TooLarge", front + b"exists " + b"(" * (65536 - len(front) - 7))
     tester.refuses("line 4: 2 TooLarge", front + b"exists " + b"(" * 65)
     tester.refuses("line 4: 14 CutShort", front + b"exists " + b"(" * 64)
-    tester.refuses("line 16777217: 3 TooLong", b"\n" * 16777216 + b"0", "trace", "/dev/stdin")
+    most_lines(tester)
     many, counts = 70000, "issued 210000\ncompleted 210000\nend all-done\nloads 70000\nstores 70000\nswaps 70000\n"
     tester.refuses(None, b"0 R 0x0\n0 W 0x0 1\n0 S 0x0 2\n" * many, "trace", "--limit", "4294967295", "/dev/stdin",
                    accepted=counts)
     line_sizes(tester)
+
+
+def most_lines(tester):
+    """A trace of as many lines as there may be, and one beyond."""
+    tester.refuses("line 16777217: 3 TooLong", b"\n" * 16777216 + b"0", "trace", "/dev/stdin")
 
 
 def line_sizes(tester):
@@ -458,7 +504,7 @@ def unlike(tester, number=400):
 PARTS = {"cuts": cuts, "line-cuts": line_cuts, "faults": faults, "ends": ends, "places": places, "bytes": every_byte,
          "sizes": sizes, "limits": limits, "words": words_of_the_line, "changes": changes, "unlike": unlike}
 # A part that tries fewer has lost some.
-LEAST = {"cuts": 176, "line-cuts": 500, "faults": 100, "ends": 30, "places": 700, "bytes": 1100, "sizes": 50,
+LEAST = {"cuts": 176, "line-cuts": 500, "faults": 100, "ends": 30, "places": 700, "bytes": 4100, "sizes": 50,
          "limits": 28, "words": 70, "changes": 600, "unlike": 400}
 
 

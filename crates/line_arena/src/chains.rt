@@ -29,33 +29,35 @@ pub struct Chains<T> {
     free: u32,
 }
 
-/// `inside` if the place is a cell, and `outside` if it is the end of a list.
+/// Writes what comes after a cell. The end of a list has the first cell, which stands in the head.
 #[inline(always)]
-fn choose(place: u32, capacity: u32, inside: u32, outside: u32) -> u32
-    ensures { result ≡ (if nat_lt place capacity then inside else outside) }
-{
-    if place < capacity { inside } else { outside }
-}
-
-/// Writes the next cell of a cell. The end of a list has none.
-#[inline(always)]
-fn set_next<T>(block: &mut Block<Node<T>>, capacity: u32, cell: u32, to: u32)
+fn set_next<T>(block: &mut Block<Node<T>>, head: &mut Head, capacity: u32, cell: u32, to: u32)
     requires { cell < capacity → IsFilled block.old cell }
-    ensures { block.new ≡ edit capacity (with_next to) block.old cell }
+    ensures block { block.new ≡ edit capacity (with_next to) block.old cell }
+    ensures head { head.new ≡ record head.old {
+        first = if nat_lt cell capacity then head.old.first else to;
+    } }
 {
     if cell < capacity {
         block.get_mut(cell as usize).next = to;
+    } else {
+        head.first = to;
     }
 }
 
-/// Writes the cell before a cell. The end of a list has none.
+/// Writes what comes before a cell. The end of a list has the last cell, which stands in the head.
 #[inline(always)]
-fn set_prev<T>(block: &mut Block<Node<T>>, capacity: u32, cell: u32, to: u32)
+fn set_prev<T>(block: &mut Block<Node<T>>, head: &mut Head, capacity: u32, cell: u32, to: u32)
     requires { cell < capacity → IsFilled block.old cell }
-    ensures { block.new ≡ edit capacity (with_prev to) block.old cell }
+    ensures block { block.new ≡ edit capacity (with_prev to) block.old cell }
+    ensures head { head.new ≡ record head.old {
+        last = if nat_lt cell capacity then head.old.last else to;
+    } }
 {
     if cell < capacity {
         block.get_mut(cell as usize).prev = to;
+    } else {
+        head.last = to;
     }
 }
 
@@ -220,14 +222,10 @@ impl<T> Chains<T> {
         ensures sizes { SameSizes self.old self.new }
     {
         let links = self.position(cell);
-        set_next(&mut self.block, self.capacity, links.prev, links.next);
-        set_prev(&mut self.block, self.capacity, links.next, links.prev);
-        let head = self.heads[links.list as usize];
-        self.heads[links.list as usize] = Head {
-            first: choose(links.prev, self.capacity, head.first, links.next),
-            last: choose(links.next, self.capacity, head.last, links.prev),
-            count: head.count - 1,
-        };
+        let head = &mut self.heads[links.list as usize];
+        set_next(&mut self.block, head, self.capacity, links.prev, links.next);
+        set_prev(&mut self.block, head, self.capacity, links.next, links.prev);
+        head.count -= 1;
     }
 
     /// Puts a cell whose node is on no list at the end of one. The node stays in the block, with what it holds.
@@ -246,14 +244,12 @@ impl<T> Chains<T> {
             IsFilled self.new.block cell }
         ensures sizes { SameSizes self.old self.new }
     {
-        let head = self.heads[list as usize];
-        set_links(&mut self.block, cell, head.last, self.capacity + list, list);
-        set_next(&mut self.block, self.capacity, head.last, cell);
-        self.heads[list as usize] = Head {
-            first: choose(head.last, self.capacity, head.first, cell),
-            last: cell,
-            count: head.count + 1,
-        };
+        let head = &mut self.heads[list as usize];
+        let last = head.last;
+        set_links(&mut self.block, cell, last, self.capacity + list, list);
+        set_next(&mut self.block, head, self.capacity, last, cell);
+        head.last = cell;
+        head.count += 1;
     }
 
     /// Takes a cell off its list. It keeps its value, and isn't free.

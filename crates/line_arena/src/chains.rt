@@ -35,7 +35,7 @@ fn set_next<T>(block: &mut Block<Node<T>>, head: &mut Head, capacity: u32, cell:
     requires { cell < capacity → IsFilled block.old cell }
     ensures block { block.new ≡ edit capacity (with_next to) block.old cell }
     ensures head { head.new ≡ record head.old {
-        first = if nat_lt cell capacity then head.old.first else to;
+      first = if nat_lt cell capacity then head.old.first else to;
     } }
 {
     if cell < capacity {
@@ -51,7 +51,7 @@ fn set_prev<T>(block: &mut Block<Node<T>>, head: &mut Head, capacity: u32, cell:
     requires { cell < capacity → IsFilled block.old cell }
     ensures block { block.new ≡ edit capacity (with_prev to) block.old cell }
     ensures head { head.new ≡ record head.old {
-        last = if nat_lt cell capacity then head.old.last else to;
+      last = if nat_lt cell capacity then head.old.last else to;
     } }
 {
     if cell < capacity {

@@ -1,11 +1,11 @@
 -- A cell that is on no list keeps its node in the block; the lists are those of the block without that node.
-use Rattle.std.proofs.Common.{◌≡◌, ℕ, zero, suc, List, ◌∷◌, get_or, set, Option, Some, None, option_map}
+use Rattle.std.proofs.Common.{◌≡◌, ℕ, ◌<◌, zero, suc, List, ◌∷◌, length, get_or, set, Option, Some, None, option_map}
 use Rattle.std.proofs.Common.{refl, sym, ap, ◌∙◌}
-use Rattle.std.proofs.Common.{arith}
-use Rattle.std.proofs.lemmas.List.{set-get_or}
+use Rattle.std.proofs.Common.{arith, get_or-set_same}
+use Rattle.std.proofs.lemmas.List.{set-get_or, set-set}
 use Rattle.line_arena.specs.declared.node.Node.{Node}
 use Rattle.line_arena.specs.Filled.{IsFilled}
-use Rattle.line_arena.specs.Rings.{at, edit}
+use Rattle.line_arena.specs.Rings.{or_blank, at, edit}
 
 module _ {A : Type 0} where
   pub set_none : (cs : List (Option A)) (x : ℕ) → get_or cs x None ≡ None → set cs x None ≡ cs
@@ -17,6 +17,12 @@ module _ {A : Type 0} where
   filled_back _ _ _ full = full
 
 module _ {X : Type 0} where
+  -- a node that was put into a cell
+  pub placed : (cs : List (Option (Node X))) (x : ℕ) (n : Node X) → x < length cs →
+      let ds = set cs x (Some n) in IsFilled ds x × (at ds x ≡ n) × (set ds x None ≡ set cs x None)
+  placed cs x n low =
+      let here = get_or-set_same cs x (Some n) None low in ((n, here), ap or_blank here, set-set cs x (Some n) None)
+
   set_emptied : (f : Node X → Node X) (cs : List (Option (Node X))) (a x : ℕ)
       → set (set cs a (option_map f (get_or cs a None))) x None ≡ set (set cs x None) a
       (option_map f (get_or (set cs x None) a None))

@@ -74,16 +74,16 @@ module _ {X : Type 0} where
       let e = rings_are ds cap hs rs m in (subst (Tied ds cap hs) (sym e) m, e)
 
   -- a cell that comes free
-  abbrev pub freed : ℕ → Chains X → Chains X
-  freed x c = record c {
-    block = set c.block x (Some (node 0 c.free (length c.heads.items) None));
+  abbrev pub freed : ℕ → ℕ → Chains X → Chains X
+  freed x p c = record c {
+    block = set c.block x (Some (node p c.free (length c.heads.items) None));
     spares = c.spares + 1;
     free = x;
   }
 
-  pub released : (x : ℕ) (c : Chains X) → Lacks x c → IsArena (freed x c) × (rings_of (freed x c) ≡ rings_of c)
-  released x c a =
-      let cs = c.block in let hs = c.heads.items in let n = node 0 c.free (length hs) None in
+  pub released : (x p : ℕ) (c : Chains X) → Lacks x c → IsArena (freed x p c) × (rings_of (freed x p c) ≡ rings_of c)
+  released x p c a =
+      let cs = c.block in let hs = c.heads.items in let n = node p c.free (length hs) None in
       let made = loosened cs c.capacity x (Some n) hs a.tied.tied (λ m is. let two : None ≡ Some m = sym a.gap.1 ∙ is in
       cc) (λ m is. let same : n.list ≡ m.list = cc in omega (arith, same)) in
       let low = a.gap.0 in let most = a.total.1 in let cells = a.tied.tied.cells in

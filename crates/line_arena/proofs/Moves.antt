@@ -68,14 +68,14 @@ module _ {X : Type 0} (cs : List (Option (Node X))) (cap : ℕ) (heads : List He
       Tied ds cap hs ss → Result ds hs ss
   from_tied ds hs ss m = let e = rings_are ds cap hs ss m in (subst (Tied ds cap hs) (sym e) m, e)
 
-  pub attach_made : (l x : ℕ) (it : Option X) (h : Head) (first : ℕ) (ds : List (Option (Node X))) →
+  pub attach_made : (l x : ℕ) (it : Option X) (h k : Head) (ds : List (Option (Node X))) →
       l < length heads → x < cap → get_or cs x None ≡ None → h ≡ get_or heads l no_head
-      → first ≡ (if nat_lt h.last cap then h.first else x) → ds ≡ edit cap (with_next x)
+      → k ≡ record h { first = if nat_lt h.last cap then h.first else x } → ds ≡ edit cap (with_next x)
       (set cs x (Some (node h.last (cap + l) l it))) h.last
-      → Result ds (set heads l (record { first = first; last = x; count = h.count + 1 }))
+      → Result ds (set heads l (record k { last = x; count = k.count + 1 }))
       (set rs l (get_or rs l [] ++ (x, it) ∷ []))
-  attach_made l x it h first ds lt small free eh ef ed =
-      rw (ed, ef, eh) (from_tied _ _ _ (attached cs cap heads rs t l x it lt small free))
+  attach_made l x it h k ds lt small free eh ek ed =
+      rw (ed, ek, eh) (from_tied _ _ _ (attached cs cap heads rs t l x it lt small free))
 
   -- the last cell of a list is a used one, and on it
   pub last_near : (l x : ℕ) (h : Head) (n : Node X) → l < length heads → get_or cs x None ≡ None →
@@ -164,14 +164,15 @@ module _ {X : Type 0} (cs : List (Option (Node X))) (cap : ℕ) (heads : List He
         (t.on x nd here lt) w refl))
         ∙ ap (λ (n : Node X). Some n.item) (sym node_is)
 
-    pub detach_made : (h : Head) (first last : ℕ) (ds : List (Option (Node X))) → h ≡ get_or heads l no_head →
-        first ≡ (if nat_lt nd.prev cap then h.first else nd.next) →
-        last ≡ (if nat_lt nd.next cap then h.last else nd.prev)
-        → ds ≡ edit cap (with_prev nd.prev) (edit cap (with_next nd.next) (set cs x None) nd.prev) nd.next
-        → Result ds (set heads l (record { first = first; last = last; count = h.count - 1 })) (map (without x) rs)
-    detach_made h first last ds eh ef el ed =
+    pub detach_made : (h k : Head) (ds : List (Option (Node X))) → h ≡ get_or heads l no_head →
+        k ≡ record h {
+          first = if nat_lt nd.prev cap then h.first else nd.next;
+          last = if nat_lt nd.next cap then h.last else nd.prev;
+        } → ds ≡ edit cap (with_prev nd.prev) (edit cap (with_next nd.next) (set cs x None) nd.prev) nd.next
+        → Result ds (set heads l (record k { count = k.count - 1 })) (map (without x) rs)
+    detach_made h k ds eh ek ed =
         let base = from_tied _ _ _ (detached cs cap heads rs t l x parts.1 parts.0 parts.2 lt parts.3).1 in
-        rw (ed, el, ef, eh, node_is) (base.0, base.1 ∙ lists_without)
+        rw (ed, ek, eh, node_is) (base.0, base.1 ∙ lists_without)
 
 module _ {X : Type 0} where
   -- the cells other than x are used as before, and those of the number l unchanged

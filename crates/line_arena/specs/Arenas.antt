@@ -5,8 +5,8 @@ use Rattle.std.specs.Coded.{Coded, code_by, coded×, coded_list, coded_ℕ}
 use Rattle.line_arena.specs.declared.chains.Chains.{Chains}
 use Rattle.line_arena.specs.Filled.{IsFilled}
 use Rattle.line_arena.specs.CellLists.{look_up, append_to, without}
-use Rattle.line_arena.specs.Chains.{total, rings_of, IsTied}
-use Rattle.line_arena.specs.Rings.{Spare}
+use Rattle.line_arena.specs.Chains.{total, rings_of, emptied, IsTied}
+use Rattle.line_arena.specs.Rings.{Spare, at}
 
 pub record Lists (X : Type 0) : Type 0 where
   pub lists : List (List (ℕ × X))
@@ -67,6 +67,12 @@ module _ {X : Type 0} where
     pub uses : (y : ℕ) → y ≢ x → (y < c.used → IsFilled c.block y) × (c.used ≤ y → get_or c.block y None ≡ None)
     pub loaded : (l : ℕ) → l < length c.heads.items → AllSome (get_or (rings_of c) l [])
     pub spare : Spare c.block (length c.heads.items) c.spares c.free
+
+  -- the cell x, which was used, is on no list, not free, and has no value
+  pub record IsBlank (x : ℕ) (c : Chains X) : Type 0 where
+    pub lacks : Lacks x (emptied x c)
+    pub filled : IsFilled c.block x
+    pub blank : (at c.block x).item ≡ None
 
   -- the lists with their values
   abbrev pub shown : List (List (ℕ × Option X)) → List (List (ℕ × X))

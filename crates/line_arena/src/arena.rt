@@ -99,7 +99,8 @@ impl<T> Arena<T> {
         match self.chains.take_free() {
             None => Err(item),
             Some(cell) => {
-                self.chains.fill(list, cell, item);
+                let before = self.chains.fill(list, cell, item);
+                let None = before else { unreachable!() };
                 Ok(Cell(cell))
             }
         }
@@ -112,9 +113,8 @@ impl<T> Arena<T> {
         ensures value { look_up cell self.old.lists ≡ Some result }
         ensures after { self.new ≡ unlinked cell self.old }
     {
-        let item = self.chains.lift(cell.0);
-        self.chains.release(cell.0);
-        item.unwrap()
+        self.chains.lift(cell.0);
+        self.chains.release(cell.0).unwrap()
     }
 
     /// Takes a cell off its list, gives its value, and puts it with another one at the end of a list, which may be its
@@ -126,9 +126,8 @@ impl<T> Arena<T> {
         ensures value { look_up cell self.old.lists ≡ Some result }
         ensures after { self.new ≡ pushed list (cell, item) (unlinked cell self.old) }
     {
-        let before = self.chains.lift(cell.0);
-        self.chains.fill(list, cell.0, item);
-        before.unwrap()
+        self.chains.lift(cell.0);
+        self.chains.fill(list, cell.0, item).unwrap()
     }
 
     /// Moves a cell with its value to the end of a list, which may be its own. The value stays where it lies.
@@ -139,7 +138,8 @@ impl<T> Arena<T> {
         ensures { IfSome (look_up cell self.old.lists) (λ item.
             self.new ≡ pushed list (cell, item) (unlinked cell self.old)) }
     {
-        self.chains.relink(list, cell.0);
+        self.chains.lift(cell.0);
+        self.chains.attach(list, cell.0);
     }
 
     /// Takes all cells off their lists and drops their values, so that all lists are empty and all cells free. Its

@@ -8,10 +8,10 @@ ghost use Rattle.std.specs.Prelude.{Option, Some, None};
 ghost use Rattle.std.specs.Borrow.{sem};
 ghost use Rattle.line_arena.specs.declared.node.Node.{Node};
 ghost use Rattle.line_arena.specs.Filled.{IsFilled};
-ghost use Rattle.line_arena.specs.Rings.{no_head, node, at, edit, with_next, with_prev};
+ghost use Rattle.line_arena.specs.Rings.{no_head, node, at, edit, with_next, with_prev, with_value_of};
 ghost use Rattle.line_arena.specs.CellLists.{look_up, without, append_to};
 ghost use Rattle.line_arena.specs.Chains.{AreEmpty, total, rings_of, emptied, empty_head, IsTied, SameUse, SameSizes};
-ghost use Rattle.line_arena.specs.Arenas.{IsArena, Lacks, model, free_cells};
+ghost use Rattle.line_arena.specs.Arenas.{IsArena, Lacks, IsBlank, model, free_cells};
 
 use crate::block::Block;
 use crate::node::{Head, Node, Position};
@@ -29,33 +29,35 @@ pub struct Chains<T> {
     free: u32,
 }
 
-/// `inside` if the place is a cell, and `outside` if it is the end of a list.
+/// Writes what comes after a cell. The end of a list has the first cell, which stands in the head.
 #[inline(always)]
-fn choose(place: u32, capacity: u32, inside: u32, outside: u32) -> u32
-    ensures { result ≡ (if nat_lt place capacity then inside else outside) }
-{
-    if place < capacity { inside } else { outside }
-}
-
-/// Writes the next cell of a cell. The end of a list has none.
-#[inline(always)]
-fn set_next<T>(block: &mut Block<Node<T>>, capacity: u32, cell: u32, to: u32)
+fn set_next<T>(block: &mut Block<Node<T>>, head: &mut Head, capacity: u32, cell: u32, to: u32)
     requires { cell < capacity → IsFilled block.old cell }
-    ensures { block.new ≡ edit capacity (with_next to) block.old cell }
+    ensures block { block.new ≡ edit capacity (with_next to) block.old cell }
+    ensures head { head.new ≡ record head.old {
+      first = if nat_lt cell capacity then head.old.first else to;
+    } }
 {
     if cell < capacity {
         block.get_mut(cell as usize).next = to;
+    } else {
+        head.first = to;
     }
 }
 
-/// Writes the cell before a cell. The end of a list has none.
+/// Writes what comes before a cell. The end of a list has the last cell, which stands in the head.
 #[inline(always)]
-fn set_prev<T>(block: &mut Block<Node<T>>, capacity: u32, cell: u32, to: u32)
+fn set_prev<T>(block: &mut Block<Node<T>>, head: &mut Head, capacity: u32, cell: u32, to: u32)
     requires { cell < capacity → IsFilled block.old cell }
-    ensures { block.new ≡ edit capacity (with_prev to) block.old cell }
+    ensures block { block.new ≡ edit capacity (with_prev to) block.old cell }
+    ensures head { head.new ≡ record head.old {
+      last = if nat_lt cell capacity then head.old.last else to;
+    } }
 {
     if cell < capacity {
         block.get_mut(cell as usize).prev = to;
+    } else {
+        head.last = to;
     }
 }
 
@@ -70,6 +72,30 @@ fn set_links<T>(block: &mut Block<Node<T>>, cell: u32, prev: u32, next: u32, lis
     node.prev = prev;
     node.next = next;
     node.list = list;
+}
+
+/// Writes the value of a cell, and gives what it had.
+#[inline(always)]
+fn set_item<T>(block: &mut Block<Node<T>>, cell: u32, item: T) -> Option<T>
+    requires { IsFilled block.old cell }
+    ensures value { result ≡ (at block.old cell).item }
+    ensures after { block.new ≡ with_value_of block.old cell item }
+{
+    block.get_mut(cell as usize).item.replace(item)
+}
+
+/// Takes the value of a cell out of it, and writes the next free cell and the number of lists.
+#[inline(always)]
+fn set_free<T>(block: &mut Block<Node<T>>, cell: u32, next: u32, lists: u32) -> Option<T>
+    requires { IsFilled block.old cell }
+    ensures value { result ≡ (at block.old cell).item }
+    ensures after { block.new ≡ slice_set block.old cell
+        (Some (node (at block.old cell).prev next lists None)) }
+{
+    let node = block.get_mut(cell as usize);
+    node.next = next;
+    node.list = lists;
+    node.item.take()
 }
 
 /// The heads of empty lists. The end of the first one has the number `end`.
@@ -196,14 +222,10 @@ impl<T> Chains<T> {
         ensures sizes { SameSizes self.old self.new }
     {
         let links = self.position(cell);
-        set_next(&mut self.block, self.capacity, links.prev, links.next);
-        set_prev(&mut self.block, self.capacity, links.next, links.prev);
-        let head = self.heads[links.list as usize];
-        self.heads[links.list as usize] = Head {
-            first: choose(links.prev, self.capacity, head.first, links.next),
-            last: choose(links.next, self.capacity, head.last, links.prev),
-            count: head.count - 1,
-        };
+        let head = &mut self.heads[links.list as usize];
+        set_next(&mut self.block, head, self.capacity, links.prev, links.next);
+        set_prev(&mut self.block, head, self.capacity, links.next, links.prev);
+        head.count -= 1;
     }
 
     /// Puts a cell whose node is on no list at the end of one. The node stays in the block, with what it holds.
@@ -222,86 +244,74 @@ impl<T> Chains<T> {
             IsFilled self.new.block cell }
         ensures sizes { SameSizes self.old self.new }
     {
-        let head = self.heads[list as usize];
-        set_links(&mut self.block, cell, head.last, self.capacity + list, list);
-        set_next(&mut self.block, self.capacity, head.last, cell);
-        self.heads[list as usize] = Head {
-            first: choose(head.last, self.capacity, head.first, cell),
-            last: cell,
-            count: head.count + 1,
-        };
+        let head = &mut self.heads[list as usize];
+        let last = head.last;
+        set_links(&mut self.block, cell, last, self.capacity + list, list);
+        set_next(&mut self.block, head, self.capacity, last, cell);
+        head.last = cell;
+        head.count += 1;
     }
 
-    /// Takes a cell off its list, and its item out of it.
+    /// Takes a cell off its list. It keeps its value, and isn't free.
     #[inline(always)]
-    pub(crate) fn lift(&mut self, cell: u32) -> Option<T>
+    pub(crate) fn lift(&mut self, cell: u32)
         requires arena { IsArena self.old }
         requires cell { IsFilled self.old.block cell }
         requires on { (at self.old.block cell).list < length self.old.heads.items }
-        ensures lacks { Lacks cell self.new }
-        ensures value { look_up cell (rings_of self.old) ≡ Some result }
-        ensures lists { rings_of self.new ≡ map (without cell) (rings_of self.old) }
-        ensures sizes { (self.new.capacity ≡ self.old.capacity) × (self.new.used ≡ self.old.used) }
+        ensures lacks { Lacks cell (emptied cell self.new) × IsFilled self.new.block cell }
+        ensures value { look_up cell (rings_of self.old) ≡ Some (at self.new.block cell).item }
+        ensures lists { rings_of (emptied cell self.new) ≡ map (without cell) (rings_of self.old) }
+        ensures sizes { SameSizes self.old self.new }
     {
         self.unhook(cell);
-        self.block.take(cell as usize).item
     }
 
-    /// Writes a cell that is on no list and not free, with this value, and puts it at the end of a list.
+    /// Puts a cell with a value that is on no list and not free at the end of a list.
     #[inline(always)]
-    pub(crate) fn fill(&mut self, list: u32, cell: u32, item: T)
-        requires lacks { Lacks cell self.old }
+    pub(crate) fn attach(&mut self, list: u32, cell: u32)
+        requires lacks { Lacks cell (emptied cell self.old) × IsFilled self.old.block cell }
         requires list { list < length self.old.heads.items }
+        requires value { (v : T) × ((at self.old.block cell).item ≡ Some v) }
         ensures arena { IsArena self.new }
-        ensures lists { rings_of self.new ≡ append_to list (cell, Some item) (rings_of self.old) }
+        ensures lists { rings_of self.new
+            ≡ append_to list (cell, (at self.old.block cell).item) (rings_of (emptied cell
+            self.old)) }
         ensures sizes { (self.new.capacity ≡ self.old.capacity) × (self.new.used ≡ self.old.used) }
     {
-        // `hook` writes the links.
-        let node = Node {
-            prev: 0,
-            next: 0,
-            list,
-            item: Some(item),
-        };
-        self.block.put(cell as usize, node);
         self.hook(list, cell);
     }
 
-    /// Makes a cell free that is on no list.
+    /// Writes the value of a cell that is on no list and not free, and puts it at the end of a list. Gives the value
+    /// that it had.
     #[inline(always)]
-    pub(crate) fn release(&mut self, cell: u32)
-        requires { Lacks cell self.old }
+    pub(crate) fn fill(&mut self, list: u32, cell: u32, item: T) -> Option<T>
+        requires lacks { Lacks cell (emptied cell self.old) × IsFilled self.old.block cell }
+        requires list { list < length self.old.heads.items }
+        ensures value { result ≡ (at self.old.block cell).item }
         ensures arena { IsArena self.new }
-        ensures lists { rings_of self.new ≡ rings_of self.old }
+        ensures lists { rings_of self.new
+            ≡ append_to list (cell, Some item) (rings_of (emptied cell self.old)) }
+        ensures sizes { (self.new.capacity ≡ self.old.capacity) × (self.new.used ≡ self.old.used) }
+    {
+        let before = set_item(&mut self.block, cell, item);
+        self.attach(list, cell);
+        before
+    }
+
+    /// Makes a cell free that is on no list, and gives the value that it had.
+    #[inline(always)]
+    pub(crate) fn release(&mut self, cell: u32) -> Option<T>
+        requires { Lacks cell (emptied cell self.old) × IsFilled self.old.block cell }
+        ensures value { result ≡ (at self.old.block cell).item }
+        ensures arena { IsArena self.new }
+        ensures lists { rings_of self.new ≡ rings_of (emptied cell self.old) }
         ensures sizes { self.new.capacity ≡ self.old.capacity }
     {
-        let node = Node {
-            prev: 0,
-            next: self.free,
-            list: self.lists(),
-            item: None,
-        };
-        self.block.put(cell as usize, node);
+        let lists = self.lists();
+        let item = set_free(&mut self.block, cell, self.free, lists);
         self.free = cell;
         self.spares += 1;
-    }
-
-    /// Moves a cell with its value from its list to the end of one.
-    #[inline(always)]
-    pub(crate) fn relink(&mut self, list: u32, cell: u32)
-        requires arena { IsArena self.old }
-        requires list { list < length self.old.heads.items }
-        requires cell { IsFilled self.old.block cell }
-        requires on { (at self.old.block cell).list < length self.old.heads.items }
-        requires value { (v : T) × (look_up cell (rings_of self.old) ≡ Some (Some v)) }
-        ensures arena { IsArena self.new }
-        ensures lists { IfSome (look_up cell (rings_of self.old)) (λ item.
-            rings_of self.new ≡ append_to list (cell, item) (map (without cell) (rings_of
-            self.old))) }
-        ensures sizes { (self.new.capacity ≡ self.old.capacity) × (self.new.used ≡ self.old.used) }
-    {
-        self.unhook(cell);
-        self.hook(list, cell);
+        item
     }
 
     /// Where a used cell is.
@@ -324,15 +334,13 @@ impl<T> Chains<T> {
     fn reuse(&mut self) -> u32
         requires arena { IsArena self.old }
         requires some { 0 < self.old.spares }
-        ensures lacks { Lacks result self.new }
-        ensures same { (rings_of self.new ≡ rings_of self.old)
+        ensures lacks { IsBlank result self.new }
+        ensures same { (rings_of (emptied result self.new) ≡ rings_of self.old)
             × (self.new.capacity ≡ self.old.capacity) }
         ensures used { self.new.used ≡ self.old.used }
     {
         let cell = self.free;
         self.free = self.next(cell);
-        let item = self.block.take(cell as usize).item;
-        let None = item else { unreachable!() };
         self.spares -= 1;
         cell
     }
@@ -341,11 +349,18 @@ impl<T> Chains<T> {
     fn unused(&mut self) -> u32
         requires arena { IsArena self.old }
         requires some { self.old.used < self.old.capacity }
-        ensures lacks { Lacks result self.new }
-        ensures same { (rings_of self.new ≡ rings_of self.old)
+        ensures lacks { IsBlank result self.new }
+        ensures same { (rings_of (emptied result self.new) ≡ rings_of self.old)
             × (self.new.capacity ≡ self.old.capacity) }
     {
         let cell = self.used;
+        let node = Node {
+            prev: 0,
+            next: 0,
+            list: 0,
+            item: None,
+        };
+        self.block.put(cell as usize, node);
         self.used = cell + 1;
         cell
     }
@@ -358,12 +373,12 @@ impl<T> Chains<T> {
         self.spares + (self.capacity - self.used)
     }
 
-    /// A free cell, if there is one.
+    /// A free cell, if there is one. It isn't free then.
     #[inline(always)]
     pub(crate) fn take_free(&mut self) -> Option<u32>
         requires { IsArena self.old }
-        ensures lacks { IfSome result (λ x. Lacks x self.new) }
-        ensures same { OnSome result ((rings_of self.new ≡ rings_of self.old)
+        ensures lacks { IfSome result (λ x. IsBlank x self.new) }
+        ensures same { IfSome result (λ x. (rings_of (emptied x self.new) ≡ rings_of self.old)
             × (self.new.capacity ≡ self.old.capacity)) }
         ensures none { IfNone result (self.new ≡ self.old) }
         ensures full { IsNone result ↔ (free_cells (model self.old) ≡ 0) }

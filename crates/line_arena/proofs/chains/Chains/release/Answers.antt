@@ -1,18 +1,18 @@
-use Rattle.std.proofs.Common.{◌+◌, set, Some, None, sym, ap, subst, ◌∙◌}
-use Rattle.line_arena.specs.Rings.{node, rings}
-use Rattle.line_arena.specs.Arenas.{IsArena}
+use Rattle.std.proofs.Common.{length, Some, None, refl}
+use Rattle.std.proofs.lemmas.List.{set-set}
+use Rattle.line_arena.specs.Rings.{node, at}
+use Rattle.line_arena.specs.Chains.{emptied}
 use Rattle.line_arena.proofs.FreeCells.{released}
 use Rattle.line_arena.proofs.chains.Chains.release.Goals as goal
 
-pub returns-clause-arena : goal.returns-clause-arena
-returns-clause-arena g c =
-    let s = c.args.self.now in let x = c.args.cell in
-    let is = c.put.ensures ∙ ap (λ l. set s.block x (Some (node 0 s.free l None))) c.lists.ensures in
-    subst (λ cs. IsArena (record s { block = cs; spares = s.spares + 1; free = x })) (sym is)
-    (released x s c.requires).0
-
-pub returns-clause-lists : goal.returns-clause-lists
-returns-clause-lists g c =
-    let s = c.args.self.now in let x = c.args.cell in
-    let is = c.put.ensures ∙ ap (λ l. set s.block x (Some (node 0 s.free l None))) c.lists.ensures in
-    ap (λ cs. rings cs s.heads.items) is ∙ (released x s c.requires).1
+pub returns : goal.returns
+returns g c =
+    let s = c.args.self.now in let x = c.args.cell in let p = (at s.block x).prev in
+    let made = released x p (emptied x s) c.requires.0 in
+    let once = set-set s.block x None (Some (node p s.free (length s.heads.items) None)) in
+    rw (c.set_free-item.ensures.after, c.lists-lists.ensures) (record {
+      value = c.set_free-item.ensures.value;
+      arena = rw once at made.0;
+      lists = rw once at made.1;
+      sizes = refl;
+    })

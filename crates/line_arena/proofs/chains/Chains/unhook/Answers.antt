@@ -1,6 +1,7 @@
-use Rattle.std.proofs.Common.{◌≡◌, ◌-◌, ◌≤◌, ◌<◌, length, set, Some, None, refl, sym, ap, subst, ◌∙◌, arith}
+use Rattle.std.proofs.Common.{◌≡◌, ◌-◌, ◌≤◌, ◌<◌, length, set, if◌then◌else◌, nat_lt, Some, None, refl, sym, ap, subst, ◌∙◌, arith}
 use Rattle.std.proofs.Common.{length-set}
 use Rattle.std.proofs.lemmas.List.{get_or_read}
+use Rattle.line_arena.specs.declared.node.Head.{Head}
 use Rattle.line_arena.specs.Rings.{no_head, node, or_blank, at, with_next, with_prev, edit}
 use Rattle.line_arena.specs.Filled.{IsFilled}
 use Rattle.line_arena.proofs.Edits.{length-edit}
@@ -25,11 +26,11 @@ set_prev-requires g c =
     let n = node k.prev k.next k.list (at s.block x).item in let here = c.position-links.ensures in
     let on : k.list < length s.heads.items = rw (ap (λ o. (or_blank o).list) here) at c.requires.on in
     λ low. let near = next_near s.block s.capacity s.heads.items t x n here on low in
-    subst (λ cs. IsFilled cs k.next) (sym c.set_next.ensures) (edit_filled s.capacity (with_next k.next)
+    subst (λ cs. IsFilled cs k.next) (sym c.set_next.ensures.block) (edit_filled s.capacity (with_next k.next)
     s.block k.prev k.next t.cells (λ m. refl) (filled_back s.block x k.next (near.0, near.1)))
 
-pub index-head-requires : goal.index-head-requires
-index-head-requires g c =
+pub index_mut-head-requires : goal.index_mut-head-requires
+index_mut-head-requires g c =
     let s = c.args.self.now in
     let on = rw (ap (λ o. (or_blank o).list) c.position-links.ensures) at c.requires.on in
     omega (arith, on, s.heads.ok.0)
@@ -40,24 +41,23 @@ overflow_sub-head g c =
     c.position-links.result in
     let n = node k.prev k.next k.list (at s.block x).item in let here = c.position-links.ensures in
     let on : k.list < length s.heads.items = rw (ap (λ o. (or_blank o).list) here) at c.requires.on in
-    let is = get_or_read s.heads.items k.list c.index-head.result.now on c.index-head.ensures no_head in
-    subst (λ h. 1 ≤ h.count) (sym is) (some s.block s.capacity s.heads.items t x n here on)
-
-pub index_mut-requires : goal.index_mut-requires
-index_mut-requires g c =
-    let s = c.args.self.now in
-    let on = rw (ap (λ o. (or_blank o).list) c.position-links.ensures) at c.requires.on in
-    omega (arith, on, s.heads.ok.0)
+    let is = get_or_read s.heads.items k.list c.index_mut-head.result.now on c.index_mut-head.ensures.value no_head in
+    let count = ap (λ (h : Head). h.count) c.set_prev.ensures.head ∙ ap (λ (h : Head). h.count) c.set_next.ensures.head in
+    subst (λ m. 1 ≤ m) (sym count) (subst (λ h. 1 ≤ h.count) (sym is)
+    (some s.block s.capacity s.heads.items t x n here on))
 
 pub returns : goal.returns
 returns g c =
     let s = c.args.self.now in let t = c.requires.tied.tied in let x = c.args.cell in let k =
     c.position-links.result in
-    let cap = s.capacity in let hs = s.heads.items in let all = length hs in let h = c.index-head.result.now in
+    let cap = s.capacity in let hs = s.heads.items in let all = length hs in let h = c.index_mut-head.result.now in
     let n = node k.prev k.next k.list (at s.block x).item in let here = c.position-links.ensures in
     let on : k.list < all = rw (ap (λ o. (or_blank o).list) here) at c.requires.on in
-    let is = get_or_read hs k.list h on c.index-head.ensures no_head in
-    let new = record h { first = c.choose.result; last = c.choose-2.result; count = h.count - 1 } in
+    let is = get_or_read hs k.list h on c.index_mut-head.ensures.value no_head in
+    let q = c.set_prev.new.head in
+    let last : Head → Head = λ h. record h { last = if nat_lt k.next cap then h.last else k.prev } in
+    let head = c.set_prev.ensures.head ∙ ap last c.set_next.ensures.head in
+    let new = record q { count = q.count - 1 } in
     let lists = length-set hs k.list new in
     let some1 : 1 ≤ h.count = subst (λ q. 1 ≤ q.count) (sym is) (some s.block cap hs t x n here on) in
     let next = edit cap (with_next k.next) s.block k.prev in
@@ -65,11 +65,10 @@ returns g c =
     let took = set s.block x None in let long1 : length took ≡ cap = length-set s.block x None ∙ t.cells in
     let next1 = edit cap (with_next k.next) took k.prev in
     let long2 : length next1 ≡ cap = length-edit cap (with_next k.next) took k.prev ∙ long1 in
-    let written = c.set_prev.ensures ∙ ap (λ cs. edit cap (with_prev k.prev) cs k.next) c.set_next.ensures in
+    let written = c.set_prev.ensures.block ∙ ap (λ cs. edit cap (with_prev k.prev) cs k.next) c.set_next.ensures.block in
     let cells = ap (λ cs. set cs x None) written ∙ edit_emptied cap (with_prev k.prev) next k.next x
     ∙ ap (λ cs. edit cap (with_prev k.prev) cs k.next) (edit_emptied cap (with_next k.next) s.block k.prev x) in
-    let made = detach_made s.block cap hs t x n here on h c.choose.result c.choose-2.result
-    (set c.set_prev.new.block x None) is c.choose.ensures c.choose-2.ensures cells in
+    let made = detach_made s.block cap hs t x n here on h q (set c.set_prev.new.block x None) is head cells in
     let same = ap (λ cs. (at cs x).item) written ∙ edit_item cap (with_prev k.prev) (λ m. refl) next k.next x
     ∙ edit_item cap (with_next k.next) (λ m. refl) s.block k.prev x in
     record {
@@ -79,7 +78,7 @@ returns g c =
       };
       value = found s.block cap hs t x n here on ∙ ap (λ o. Some o) (sym same);
       lists = made.1;
-      total = total_down hs k.list h new on is some1 refl;
+      total = total_down hs k.list h new on is some1 (ap (λ h. h.count - 1) head);
       uses = (
         subst (Kept all x s.block) (sym cells)
             (kept_edit all k.list cap (with_prev k.prev) s.block next1 k.next x long2 (λ m. refl) on

@@ -2,8 +2,9 @@ mod Indices
 mod ListedChanges
 mod ListedSums
 mod OrderLaws
+mod RowFinds
+mod RowFits
 mod RowLaws
-mod SwappedRows
 mod StoredSets
 mod TableLaws
 mod Tags

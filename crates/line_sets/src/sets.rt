@@ -121,7 +121,7 @@ impl<V: Copy + Listed> LineSets<V> {
     {
         looked_up::<(u64, V)>();
         let _lists = self.arena.lists();
-        let Some(cell) = self.rows.find(set, line) else {
+        let Some(cell) = self.rows.find(&self.arena, set, line) else {
             return None;
         };
         Some(&self.arena.get(Cell(cell)).1)
@@ -182,7 +182,7 @@ impl<V: Copy + Listed> LineSets<V> {
         looked_up::<(u64, V)>();
         taken_off::<(u64, V)>();
         let _lists = self.arena.lists();
-        let Some(cell) = self.rows.find(set, line) else {
+        let Some(cell) = self.rows.find(&self.arena, set, line) else {
             self.add(set, line, value);
             return;
         };
@@ -208,9 +208,9 @@ impl<V: Copy + Listed> LineSets<V> {
         requires way { IsTrue (has_place self.old set line) }
         ensures { self.new ≡ record self.old { sets = put self.old.sets set line value } }
     {
-        let _lists = self.arena.lists();
         let pushed = self.arena.push_back(set as u32, (line, value));
         let cell = pushed.unwrap();
+        let _lists = self.arena.lists();
         self.rows.push(set, line, cell.0);
         let after = count_of(&value);
         self.listed += after;
@@ -227,7 +227,7 @@ impl<V: Copy + Listed> LineSets<V> {
     {
         looked_up::<(u64, V)>();
         let _lists = self.arena.lists();
-        if let Some(cell) = self.rows.find(set, line) {
+        if let Some(cell) = self.rows.find(&self.arena, set, line) {
             let old = &self.arena.get(Cell(cell)).1;
             let before = count_of(old);
             let after = count_of(&value);
@@ -249,7 +249,7 @@ impl<V: Copy + Listed> LineSets<V> {
         looked_up::<(u64, V)>();
         taken_off::<(u64, V)>();
         let _lists = self.arena.lists();
-        let Some(cell) = self.rows.take(set, line) else {
+        let Some(cell) = self.rows.take(&self.arena, set, line) else {
             return None;
         };
         let (_line, value) = self.arena.unlink(Cell(cell));

@@ -1,6 +1,6 @@
-mod Indices
 mod ListedChanges
 mod ListedSums
+mod MissingLines
 mod OrderLaws
 mod RowFinds
 mod RowFits

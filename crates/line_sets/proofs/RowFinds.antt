@@ -6,7 +6,7 @@ use Rattle.line_arena.specs.Arenas.{IsOnce}
 use Rattle.line_arena.specs.CellLists.{find_cell, look_up}
 use Rattle.line_arena.specs.ListLaws.{LookUpLaws}
 use Rattle.line_sets.specs.declared.entries.Row.{Row}
-use Rattle.line_sets.specs.Order.{find, is_there, IsDistinct}
+use Rattle.line_sets.specs.Order.{find, IsDistinct}
 use Rattle.line_sets.specs.Tags.{tag_of}
 use Rattle.line_sets.specs.TaggedRows.{no_row, row_at, IsPlaceOf}
 use Rattle.line_sets.specs.Stored.{tag_in, tags_of, Fits, IsPlaceIn}
@@ -55,9 +55,12 @@ module _ {X : Type 0} where
       Fits row (get_or ls i []) → (o : Option ℕ) → IsPlaceOf row ls line o → IsPlaceIn row (get_or ls i []) line o
   place-in {row} ls i line laws once fits (Some at) h =
       let c = get_or row.cells at 0 in
-      let same = seen ls i c (get_or row.tags at 0) laws once (fits.each at h.0) in
-      (h.0, fits.few, on-cell (get_or ls i []) c line fits.lines
-      (ap (option_map (λ (p : ℕ × X). p.0)) (sym same) ∙ h.1))
+      let same = seen ls i c (get_or row.tags at 0) laws once (fits.each at h.0) in (
+        h.0,
+        fits.few,
+        on-cell (get_or ls i []) c line fits.lines
+            (ap (option_map (λ (p : ℕ × X). p.0)) (sym same) ∙ h.1),
+      )
   place-in {row} ls i line laws once fits None h =
       let xs = get_or ls i [] in
       no-place (find (tags_of xs) line) (λ c e.

@@ -1,5 +1,5 @@
 -- What a row keeps of its list after each change of a cell.
-use Rattle.std.proofs.Common.{◌≡◌, ◌≢◌, ℕ, ◌+◌, ◌-◌, ◌<◌, inl, inr, true, List, [], ◌∷◌, ◌++◌, map, length, get_or, set}
+use Rattle.std.proofs.Common.{◌≡◌, ◌≢◌, ℕ, ◌-◌, ◌<◌, inl, inr, true, List, [], ◌∷◌, ◌++◌, length, get_or, set}
 use Rattle.std.proofs.Common.{Some, None, refl, sym, ap, ◌∙◌, arith, length-set, get_or-set_same, get_or-set_other}
 use Rattle.std.specs.Prelude.{if◌then◌else◌, nat_eq}
 use Rattle.std.specs.Option.{is_some}
@@ -12,7 +12,7 @@ use Rattle.line_sets.specs.Order.{find, put_last, without, IsDistinct}
 use Rattle.line_sets.specs.Tags.{tag_of}
 use Rattle.line_sets.specs.TaggedRows.{freed, with_line, HasCell}
 use Rattle.line_sets.specs.Stored.{tag_in, tags_of, Fits}
-use Rattle.line_sets.proofs.Indices.{missing-without}
+use Rattle.line_sets.proofs.MissingLines.{missing-without}
 use Rattle.line_sets.proofs.OrderLaws.{IsDistinct-put_last, IsDistinct-without, length-without_exact}
 use Rattle.line_sets.proofs.TaggedCells.{CellsOnce, cut-tags, on-line, without_none, written-tags}
 
@@ -124,8 +124,11 @@ module _ {X : Type 0} where
         all = λ y t e. elim (cases_eq c y) [
           | inl is ↦ record { place = row.count; low = omega arith; is = here ∙ is }
           | inr ne ↦ (let n = now y in let had = fits.all y t (grind arith) in
-              record { place = had.place; low = (let l = had.low in omega arith);
-                  is = others had.place (λ same. (let l = had.low in absurd (omega arith))) ∙ had.is })
+              record {
+                place = had.place;
+                low = (let l = had.low in omega arith);
+                is = others had.place (λ same. (let l = had.low in absurd (omega arith))) ∙ had.is;
+              })
         ];
         once = λ j k low high same. let a = cases_eq j row.count in let b = cases_eq k row.count in
             let old = fits.once j k in let oj = others j in let ok = others k in let ej = fits.each j in
@@ -157,8 +160,11 @@ module _ {X : Type 0} where
         all = λ y t e. let now = cut-cell c y xs in let was = fits.all y t (grind arith) in
             let had_is = had.is in let was_is = was.is in
             let b = from-back at n was.place was.low (λ p. (let cy : c ≡ y = sym had_is ∙ ap (λ k. get_or row.cells k 0) (sym p) ∙ was_is in grind arith)) low in
-            record { place = from (n - 1) at was.place; low = b.0;
-                is = cells (from (n - 1) at was.place) ∙ ap (λ k. get_or row.cells k 0) b.1 ∙ was_is };
+            record {
+              place = from (n - 1) at was.place;
+              low = b.0;
+              is = cells (from (n - 1) at was.place) ∙ ap (λ k. get_or row.cells k 0) b.1 ∙ was_is;
+            };
         once = λ j k lt gt e. from-once at n j k lt gt (fits.once (from at (n - 1) j) (from at (n - 1) k)
             (from-low at n j lt).0 (from-low at n k gt).0 (sym (cells j) ∙ e ∙ cells k));
         lines = rw tags (IsDistinct-without (tags_of xs) line fits.lines);

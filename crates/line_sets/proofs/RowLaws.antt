@@ -43,12 +43,6 @@ unplaced {places} {rows = rows} {i} {o} spread h read nowhere =
       room = (let fewer = count-fewer places i 0 low none in let all = spread.counted in omega (arith, fewer, all));
     }
 
--- a set that had a line
-pub placed : {places : List (Option ℕ)} {sets : List ℕ} {rows : List Row} {i k : ℕ} {o : Option ℕ} →
-    IsSpread places sets rows → i < length rows → o ≡ get_or places i o → o ≡ Some k → get_or places i None ≡ Some k
-placed {places} {i = i} {o = o} spread h read some =
-    sym (get_or_read places i o (omega (arith, h, spread.long)) read None) ∙ some
-
 pub spread-more : (places : List (Option ℕ)) (sets : List ℕ) (rows : List Row) (i n : ℕ) (w : Row) →
     IsSpread places sets rows → i < length places → get_or places i None ≡ None → n ≡ length sets →
     IsSpread (set places i (Some n)) (sets ++ i ∷ []) (set rows i w)
@@ -70,19 +64,6 @@ spread-more places sets rows i n w spread h none is =
       long = omega (arith, long_rows, same, spread.long);
       counted = (let c = spread.counted in omega (arith, long, same, count-fewer places i n h none));
     }
-
--- a row of a set that had a line is written
-pub spread-kept : {places : List (Option ℕ)} {sets : List ℕ} {rows : List Row} (i : ℕ) (w : Row) →
-    IsSpread places sets rows → (get_or places i None ≡ None → ⊥) → IsSpread places sets (set rows i w)
-spread-kept {rows = rows} i w spread there = record {
-  below = spread.below;
-  own = spread.own;
-  there = spread.there;
-  empty = λ j e. let at = cases_eq j i in let old = spread.empty j in
-      let before = get_or-set_other rows i j w no_row in grind arith;
-  long = length-set rows i w ∙ spread.long;
-  counted = spread.counted;
-}
 
 all-none : (n : ℕ) → count_none (replicate n None) ≡ n
 all-none zero = refl
@@ -110,32 +91,6 @@ pub record IsHalfway (at : ℕ) (old new : List (Option ℕ)) (rows : List Row) 
   pub long : length rows ≡ length old
   pub left : (i k : ℕ) → get_or new i None ≡ Some k → (at ≤ k) × (get_or old i None ≡ Some k)
   pub empty : (i : ℕ) → get_or new i None ≡ None → row_at rows i ≡ no_row
-
-pub halfway-first : {places : List (Option ℕ)} {sets : List ℕ} {rows : List Row} → IsSpread places sets rows →
-    IsHalfway 0 places places rows
-halfway-first spread = record {
-  many = refl;
-  long = spread.long;
-  left = λ i k e. (omega arith, e);
-  empty = spread.empty;
-}
-
-pub halfway-next : {old new : List (Option ℕ)} {sets : List ℕ} {all rows : List Row} (at : ℕ) → IsSpread old sets all →
-    IsHalfway at old new rows → at < length sets →
-    IsHalfway (at + 1) old (set new (get_or sets at 0) None) (set rows (get_or sets at 0) no_row)
-halfway-next {old} {new} {sets} {all} {rows} at spread half low =
-    let s = get_or sets at 0 in let below = spread.there at low in let many = half.many in let long = half.long in
-    let here = get_or-set_same new s None None in
-    record {
-      many = length-set new s None ∙ half.many;
-      long = length-set rows s no_row ∙ half.long;
-      left = λ i k e. let case = cases_eq i s in let which = cases_eq k at in let was = half.left i k in
-          let own = spread.own i k in let other = get_or-set_other new s i None None in grind arith;
-      empty = λ i e. let case = cases_eq i s in let was = half.empty i in
-          let other = get_or-set_other new s i None None in
-          let kept = get_or-set_other rows s i no_row no_row in
-          let gone = get_or-set_same rows s no_row no_row (omega arith) in grind arith;
-    }
 
 pub record IsAllEmpty (n : ℕ) (places : List (Option ℕ)) (rows : List Row) : Type 0 where
   pub of_places : places ≡ replicate n None

@@ -19,7 +19,7 @@ use Rattle.line_sets.specs.SetTable.{Sets, set_at, look, has_place, drop_line}
 use Rattle.line_sets.specs.Stored.{entries_of, tags_of, sets_of, Fits, IsStored}
 use Rattle.line_sets.specs.declared.entries.Row.{Row}
 use Rattle.line_sets.specs.TaggedRows.{freed, no_row, row_at, with_line, IsCut}
-use Rattle.line_sets.proofs.Indices.{missing-find, missing-without}
+use Rattle.line_sets.proofs.MissingLines.{missing-find, missing-without}
 use Rattle.line_sets.proofs.ListedSums.{IsSwap, swap-put_last, swap-put_in_place, swap-without}
 use Rattle.line_sets.proofs.TaggedCells.{CellsOnce, apart, none_or_some, rewritten_none, on-line}
 use Rattle.line_sets.proofs.TaggedCells.{entry-there, cut-entries, written-entries, moved-entries, pushed-entries}

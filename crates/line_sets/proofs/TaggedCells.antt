@@ -1,18 +1,15 @@
 -- One set's cells: what is known of a line by its cell, and what each change of a cell makes of the lines.
-use Rattle.std.proofs.Common.{◌≡◌, ◌≢◌, ℕ, suc, ◌<◌, ◌≤◌, ◌⊎◌, inl, inr, true, List, [], ◌∷◌, ◌++◌, map}
-use Rattle.std.proofs.Common.{length, get_or, Some, None, refl, sym, ap, ◌∙◌, arith}
+use Rattle.std.proofs.Common.{◌≡◌, ◌≢◌, ℕ, suc, ◌⊎◌, inl, inr, true, List, [], ◌∷◌, ◌++◌, map}
+use Rattle.std.proofs.Common.{get_or, Some, None, refl, sym, ap, ◌∙◌, arith}
 use Rattle.std.specs.Option.{is_some}
 use Rattle.std.proofs.lemmas.Bool.{cases_eq}
-use Rattle.std.proofs.lemmas.List.{length-map, length_push, map_push}
+use Rattle.std.proofs.lemmas.List.{map_push}
 use Rattle.line_arena.specs.CellLists.{find_cell, rewritten}
 use Rattle.line_arena.specs.CellLists as cell
 use Rattle.line_arena.specs.Arenas.{cell_in, IsOnce}
 use Rattle.line_sets.specs.Order.{find, is_there, put_last, put_in_place, without, IsDistinct}
 use Rattle.line_sets.specs.Stored.{entries_of, tags_of}
-use Rattle.line_sets.proofs.Indices.{missing-without}
-use Rattle.line_sets.proofs.OrderLaws.{find-put_last_same, find-put_last_other, find-without_same, find-without_other}
-use Rattle.line_sets.proofs.OrderLaws.{IsDistinct-put_last}
-use Rattle.line_sets.proofs.OrderLaws.{IsDistinct-without, length-without_exact}
+use Rattle.line_sets.proofs.MissingLines.{missing-without}
 
 module _ {X : Type 0} where
   -- no cell is there twice

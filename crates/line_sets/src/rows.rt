@@ -5,8 +5,8 @@ ghost use Rattle.line_sets.specs.TaggedRows.{no_row, row_at, with_line, IsCut};
 ghost use Rattle.line_sets.specs.Stored.{tags_of, AreRows, IsPlaceIn};
 
 use crate::entries::Row;
-use line_arena::laws::looked_up;
 use line_arena::Arena;
+use line_arena::laws::looked_up;
 use std::alloc::{AllocError, Global};
 use std::marker::Model;
 

@@ -42,7 +42,8 @@ module _ {X : Type 0} where
 
   -- a line is on a list where one of its cells has it
   first-on : (a : ℕ × (ℕ × X)) (xs : List (ℕ × (ℕ × X))) (c line : ℕ) →
-      (option_map (λ p. p.0) (find_cell c xs) ≡ Some line → find (tags_of xs) line ≡ Some c) → IsDistinct (tags_of (a ∷ xs)) →
+      (option_map (λ p. p.0) (find_cell c xs) ≡ Some line → find (tags_of xs) line ≡ Some c) →
+      IsDistinct (tags_of (a ∷ xs)) →
       option_map (λ p. p.0) (find_cell c (a ∷ xs)) ≡ Some line → find (tags_of (a ∷ xs)) line ≡ Some c
   first-on a xs c line rest once h = let first = once.0 in grind arith
 

@@ -26,7 +26,8 @@ from-low at n k low = grind arith
 from-once : (at n j k : ℕ) → j < n - 1 → k < n - 1 → from at (n - 1) j ≡ from at (n - 1) k → j ≡ k
 from-once at n j k low high same = grind arith
 
-from-back : (at n k : ℕ) → k < n → k ≢ at → at < n → (from (n - 1) at k < n - 1) × (from at (n - 1) (from (n - 1) at k) ≡ k)
+from-back : (at n k : ℕ) → k < n → k ≢ at → at < n →
+    (from (n - 1) at k < n - 1) × (from at (n - 1) (from (n - 1) at k) ≡ k)
 from-back at n k low apart h = grind arith
 
 from-is : (xs : List ℕ) (at last k : ℕ) → at < length xs →
@@ -159,7 +160,8 @@ module _ {X : Type 0} where
             let ne = l.1 low in grind arith;
         all = λ y t e. let now = cut-cell c y xs in let was = fits.all y t (grind arith) in
             let had_is = had.is in let was_is = was.is in
-            let b = from-back at n was.place was.low (λ p. (let cy : c ≡ y = sym had_is ∙ ap (λ k. get_or row.cells k 0) (sym p) ∙ was_is in grind arith)) low in
+            let b = from-back at n was.place was.low (λ p. (let cy : c ≡ y =
+            sym had_is ∙ ap (λ k. get_or row.cells k 0) (sym p) ∙ was_is in grind arith)) low in
             record {
               place = from (n - 1) at was.place;
               low = b.0;

@@ -218,11 +218,11 @@ module _ {X : Type 0} where
       Becomes ways a (written-in c (line, w) a) rows i (put_in_place (set_at (sets_of a.lists) i) line w) line (Some w)
   written {a = a} {rows} {i} {line} {c} w found =
       let fits = found.stored.fits i found.low in let cells = apart a.lists i found.once in
+      let kept = fits-written line w fits cells found.tag in
       becomes (row_at rows i) (rewritten c (line, w) (get_or a.lists i [])) found.stored found.low
       (swap-put_in_place (set_at (sets_of a.lists) i) line w (ap is_some found.entry))
       (ap (λ us. lists_of us a.cells) (written-lists (line, w) found)) (sym (set-get_or rows i no_row))
-      (let kept = fits-written line w fits cells found.tag in omega (arith, kept.many, fits.many, found.stored.within i found.low))
-      (fits-written line w fits cells found.tag)
+      (omega (arith, kept.many, fits.many, found.stored.within i found.low)) kept
       (written-entries (get_or a.lists i []) line c w cells found.tag
       ∙ ap (λ us. put_in_place us line w) (sym (entries-at a.lists i found.low)))
 
@@ -233,12 +233,12 @@ module _ {X : Type 0} where
       Becomes ways a b rows i (put_last (set_at (sets_of a.lists) i) line w) line (Some w)
   last-put {a = a} {rows = rows} {i} {line} {c} w found is =
       let fits = found.stored.fits i found.low in let cells = apart a.lists i found.once in
+      let kept = fits-moved line w fits cells found.tag in
       becomes (row_at rows i) (cell.without c (get_or a.lists i []) ++ (c, (line, w)) ∷ [])
       found.stored found.low
       (swap-put_last (set_at (sets_of a.lists) i) line w (distinct-at i found.stored found.low)) is
       (sym (set-get_or rows i no_row))
-      (let kept = fits-moved line w fits cells found.tag in omega (arith, kept.many, fits.many, found.stored.within i found.low))
-      (fits-moved line w fits cells found.tag)
+      (omega (arith, kept.many, fits.many, found.stored.within i found.low)) kept
       (moved-entries (get_or a.lists i []) line c w cells fits.lines found.tag
       ∙ ap (λ us. put_last us line w) (sym (entries-at a.lists i found.low)))
 
@@ -320,7 +320,8 @@ module _ {X : Type 0} where
       ∙ ap (λ us. without us line) (sym (entries-at a.lists i found.low)))
 
   -- a cell that is on no list
-  nowhere-at : (c : ℕ) (ls : List (List (ℕ × (ℕ × X)))) (i : ℕ) → look_up c ls ≡ None → find_cell c (get_or ls i []) ≡ None
+  nowhere-at : (c : ℕ) (ls : List (List (ℕ × (ℕ × X)))) (i : ℕ) → look_up c ls ≡ None →
+      find_cell c (get_or ls i []) ≡ None
   nowhere-at c [] i none = refl
   nowhere-at c (xs ∷ ls) zero none = grind arith
   nowhere-at c (xs ∷ ls) (suc i) none = nowhere-at c ls i (grind arith)
@@ -328,7 +329,8 @@ module _ {X : Type 0} where
   -- a new line is put
   pub put-new : {ways : ℕ} {a b : Lists (ℕ × X)} {rows new : List Row} {i line : ℕ} (c : ℕ) (v : X) →
       IsNew ways a rows i line → look_up c a.lists ≡ None → b ≡ pushed i (c, (line, v)) a →
-      new ≡ set rows i (with_line line c (row_at rows i)) → Becomes ways a b new i (put_last (set_at (sets_of a.lists) i) line v) line (Some v)
+      new ≡ set rows i (with_line line c (row_at rows i)) →
+      Becomes ways a b new i (put_last (set_at (sets_of a.lists) i) line v) line (Some v)
   put-new {a = a} {rows = rows} {i = i} {line} c v fresh free is row_is =
       let fits = fresh.stored.fits i fresh.low in
       becomes (with_line line c (row_at rows i)) (get_or a.lists i [] ++ (c, (line, v)) ∷ [])
@@ -422,7 +424,8 @@ stored-empty {X} ways sets a rows narrow small is empty =
 -- as many sets without lines as there were
 pub stored-cleared :
     {X : Type 0} (ways : ℕ) (a b : Lists (ℕ × X)) (rows empty : List Row) → IsStored ways a rows →
-    b ≡ lists_of (replicate (length a.lists) []) a.cells → empty ≡ replicate (length rows) no_row → IsStored ways b empty
+    b ≡ lists_of (replicate (length a.lists) []) a.cells → empty ≡ replicate (length rows) no_row →
+    IsStored ways b empty
 stored-cleared ways a b rows empty stored is none =
     stored-empty ways (length a.lists) b empty stored.narrow stored.small
     (is ∙ ap (lists_of (replicate (length a.lists) [])) stored.cells) (none ∙ ap (λ n. replicate n no_row) stored.many)

@@ -32,7 +32,7 @@ pub struct LineSets<V: Listed> {
     unlisted: Vec<u8>,
     // Each set's lines and values, in order of use.
     arena: Arena<(u64, V)>,
-    // Each set's lines and their cells of the arena.
+    // Each set's cells of the arena, with the tags of their lines.
     rows: Rows,
     // The listed lines in rising order, if they are kept so.
     order: RankedLines,

@@ -24,7 +24,8 @@ invariant_of-self g c =
     let after = rw c.unwrap-cell.ensures at c.push_back-pushed.ensures.after in
     let free = rw c.unwrap-cell.ensures at c.push_back-pushed.ensures.fresh in
     let is = c.count_of-after.ensures.count in
-    let new = put-new c.cell.inside.0 c.args.value fresh (rw (← c.cell.view_is) at free) (rw (← c.cell.view_is) at after) c.push.ensures in (
+    let new = put-new c.cell.inside.0 c.args.value fresh (rw (← c.cell.view_is) at free)
+    (rw (← c.cell.view_is) at after) c.push.ensures in (
       new.stored,
       omega (arith, counted g.V.Listed.is_listed new fresh.absent {n = 0} refl is c.self.invariant.1),
       c.change.ensures.order _ _ c.self.invariant.2 (exchanged g.V.Listed.is_listed new fresh.absent {n = 0} refl is),
@@ -46,7 +47,8 @@ returns g c =
     let after = rw c.unwrap-cell.ensures at c.push_back-pushed.ensures.after in
     let free = rw c.unwrap-cell.ensures at c.push_back-pushed.ensures.fresh in
     rw (← c.self.view_is) (ap (table_of c.self.inside.ways)
-    (put-new c.cell.inside.0 c.args.value fresh (rw (← c.cell.view_is) at free) (rw (← c.cell.view_is) at after) c.push.ensures).are)
+    (put-new c.cell.inside.0 c.args.value fresh (rw (← c.cell.view_is) at free)
+    (rw (← c.cell.view_is) at after) c.push.ensures).are)
 
 pub overflow_add-self : goal.overflow_add-self
 overflow_add-self g c =

@@ -1,9 +1,10 @@
-mod Indices
 mod ListedChanges
 mod ListedSums
+mod MissingLines
 mod OrderLaws
+mod RowFinds
+mod RowFits
 mod RowLaws
-mod SwappedRows
 mod StoredSets
 mod TableLaws
 mod Tags

@@ -8,6 +8,7 @@ use Rattle.std.proofs.lemmas.List.{get_or-map, get_or_past, length-append, lengt
 use Rattle.line_arena.specs.Arenas.{Lists}
 use Rattle.line_arena.specs.CellLists.{look_up}
 use Rattle.ranked_lines.specs.Rising.{tally, HasRoom, IsExchanged}
+use Rattle.line_sets.specs.declared.entries.Row.{Row}
 use Rattle.line_sets.specs.Order.{find, lines_passing, IsDistinct}
 use Rattle.line_sets.specs.SetTable.{all_listed, count_of, look, set_at}
 use Rattle.line_sets.specs.Stored.{counts_without, sets_of, CanCount, IsStored}
@@ -83,12 +84,12 @@ module _ {X : Type 0} (passes : X → Bool) where
   none-anywhere zero = refl
   none-anywhere (suc n) = ap (λ ns. 0 ∷ ns) (none-anywhere n)
 
-  module _ {ways : ℕ} {a : Lists (ℕ × X)} {rows : List (List (ℕ × ℕ))} (stored : IsStored ways a rows) where
+  module _ {ways : ℕ} {a : Lists (ℕ × X)} {rows : List Row} (stored : IsStored ways a rows) where
     set-short : (i : ℕ) → i < length a.lists → length (set_at (sets_of a.lists) i) ≤ ways
     set-short i h =
         let at : length (set_at (sets_of a.lists) i) ≡ length (get_or a.lists i []) =
         ap length (entries-at a.lists i h) ∙ length-map (get_or a.lists i []) (λ (p : ℕ × (ℕ × X)). (p.1.0, p.1.1)) in
-        let within = (stored.fits i h).within in omega (arith, at, within)
+        let within = stored.within i h in omega (arith, at, within)
 
     few : length (all_listed passes (sets_of a.lists)) ≤ length a.lists * ways
     few =
@@ -116,7 +117,7 @@ module _ {X : Type 0} (passes : X → Bool) where
         let cells = stored.cells in rw same (rw (kept (less-room _ _ _ (omega (arith, few, cells)) room)) room)
 
   -- how many values are listed, and how often each line, after a change
-  module _ {ways : ℕ} {a b : Lists (ℕ × X)} {new : List (List (ℕ × ℕ))} {i : ℕ} {ps : List (ℕ × X)} {line : ℕ}
+  module _ {ways : ℕ} {a b : Lists (ℕ × X)} {new : List Row} {i : ℕ} {ps : List (ℕ × X)} {line : ℕ}
       {was now : Option X} (change : Becomes ways a b new i ps line now) (old : look (sets_of a.lists) i line ≡ was)
       {n m : ℕ} (went : n ≡ count_of passes was) (came : m ≡ count_of passes now) where
     pub counted : {count : ℕ} → count ≡ length (all_listed passes (sets_of a.lists)) →
@@ -135,7 +136,7 @@ module _ {X : Type 0} (passes : X → Bool) where
         let before = weighed c line n (look (sets_of a.lists) i line) (went ∙ ap (count_of passes) (sym old)) in
         let after = weighed c line m now came in rw change.are (omega (arith, one, all, before, after))
 
-  pub in-count : {ways : ℕ} {a : Lists (ℕ × X)} {rows : List (List (ℕ × ℕ))} {i line c : ℕ} {p : ℕ × X} {count n : ℕ} →
+  pub in-count : {ways : ℕ} {a : Lists (ℕ × X)} {rows : List Row} {i line c : ℕ} {p : ℕ × X} {count n : ℕ} →
       IsFound ways a rows i line c → look_up c a.lists ≡ Some p →
       count ≡ length (all_listed passes (sets_of a.lists)) → n ≡ count_of passes (Some p.1) → n ≤ count
   in-count {a = a} {i = i} {line} found read counted is =
@@ -167,7 +168,7 @@ module _ {X : Type 0} (passes : X → Bool) where
     pub count-at : get_or counts i 0 ≡ failing (set_at (sets_of a.lists) i)
     count-at = ap (λ ns. get_or ns i 0) counted ∙ get_or-map failing (sets_of a.lists) i [] 0 here
 
-  pub can-count : {ways : ℕ} {a : Lists (ℕ × X)} {rows : List (List (ℕ × ℕ))} {counts : List ℕ} {n m : ℕ}
+  pub can-count : {ways : ℕ} {a : Lists (ℕ × X)} {rows : List Row} {counts : List ℕ} {n m : ℕ}
       {was : Option X}
       (i line : ℕ) → IsStored ways a rows → i < length a.lists → look (sets_of a.lists) i line ≡ was →
       counts ≡ counts_without passes (sets_of a.lists) → n ≡ count_of fails was → m ≤ 1 → CanCount counts i n m
@@ -182,7 +183,7 @@ module _ {X : Type 0} (passes : X → Bool) where
         few = omega (arith, at, short, most, narrow, one);
       }
 
-  pub recounted : {ways : ℕ} {a b : Lists (ℕ × X)} {new : List (List (ℕ × ℕ))} {i : ℕ} {ps : List (ℕ × X)} {line : ℕ}
+  pub recounted : {ways : ℕ} {a b : Lists (ℕ × X)} {new : List Row} {i : ℕ} {ps : List (ℕ × X)} {line : ℕ}
       {was now : Option X} {counts : List ℕ} {n m : ℕ} → Becomes ways a b new i ps line now →
       look (sets_of a.lists) i line ≡ was → n ≡ count_of fails was → m ≡ count_of fails now →
       counts ≡ counts_without passes (sets_of a.lists) →

@@ -4,7 +4,7 @@ use Rattle.std.proofs.Common.{◌≡◌, ℕ, zero, suc, ◌+◌, ◌<◌, Bool,
 use Rattle.std.proofs.Common.{Option, Some, None, arith}
 use Rattle.line_sets.specs.Order.{find, is_there, lines_passing, put_in_place, put_last, without, IsDistinct}
 use Rattle.line_sets.specs.SetTable.{all_listed, set_at}
-use Rattle.line_sets.proofs.Indices.{missing-without}
+use Rattle.line_sets.proofs.MissingLines.{missing-without}
 
 -- what a line weighs if its value is listed
 abbrev pub weigh : {X : Type 0} → (X → Bool) → (ℕ → ℕ) → ℕ → Option X → ℕ

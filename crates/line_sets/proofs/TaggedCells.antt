@@ -1,18 +1,15 @@
 -- One set's cells: what is known of a line by its cell, and what each change of a cell makes of the lines.
-use Rattle.std.proofs.Common.{◌≡◌, ◌≢◌, ℕ, suc, ◌<◌, ◌≤◌, ◌⊎◌, inl, inr, true, List, [], ◌∷◌, ◌++◌, map}
-use Rattle.std.proofs.Common.{length, Some, None, refl, sym, ap, ◌∙◌, arith}
+use Rattle.std.proofs.Common.{◌≡◌, ◌≢◌, ℕ, suc, ◌⊎◌, inl, inr, true, List, [], ◌∷◌, ◌++◌, map}
+use Rattle.std.proofs.Common.{get_or, Some, None, refl, sym, ap, ◌∙◌, arith}
 use Rattle.std.specs.Option.{is_some}
 use Rattle.std.proofs.lemmas.Bool.{cases_eq}
-use Rattle.std.proofs.lemmas.List.{length-map, length_push, map_push}
+use Rattle.std.proofs.lemmas.List.{map_push}
 use Rattle.line_arena.specs.CellLists.{find_cell, rewritten}
 use Rattle.line_arena.specs.CellLists as cell
-use Rattle.line_arena.specs.Arenas.{cell_in}
+use Rattle.line_arena.specs.Arenas.{cell_in, IsOnce}
 use Rattle.line_sets.specs.Order.{find, is_there, put_last, put_in_place, without, IsDistinct}
-use Rattle.line_sets.specs.Stored.{entries_of, tags_of, Fits, IsCut}
-use Rattle.line_sets.proofs.Indices.{missing-without}
-use Rattle.line_sets.proofs.OrderLaws.{find-put_last_same, find-put_last_other, find-without_same, find-without_other}
-use Rattle.line_sets.proofs.OrderLaws.{IsDistinct-put_last}
-use Rattle.line_sets.proofs.OrderLaws.{IsDistinct-without, length-without_exact}
+use Rattle.line_sets.specs.Stored.{entries_of, tags_of}
+use Rattle.line_sets.proofs.MissingLines.{missing-without}
 
 module _ {X : Type 0} where
   -- no cell is there twice
@@ -24,13 +21,16 @@ module _ {X : Type 0} where
   nowhere x [] h = refl
   nowhere x (a ∷ xs) h = let rest = nowhere x xs (λ i. h (suc i)) in let first = h 0 in grind arith
 
-  pub cells-once :
+  cells-once :
       (xs : List (ℕ × X)) → ((i j x : ℕ) → cell_in xs i ≡ Some x → cell_in xs j ≡ Some x → i ≡ j) → CellsOnce xs
   cells-once [] h = tt
   cells-once (a ∷ xs) h = (
     nowhere a.0 xs (λ i e. (let same = h 0 (suc i) a.0 refl e in absurd (omega (arith, same)))),
     cells-once xs (λ i j x p q. (let same = h (suc i) (suc j) x p q in omega (arith, same))),
   )
+
+  pub apart : (ls : List (List (ℕ × X))) (i : ℕ) → IsOnce ls → CellsOnce (get_or ls i [])
+  apart ls i once = cells-once (get_or ls i []) (λ j k x p q. (once.once i i j k x p q).1)
 
   pub none_or_some : (x : ℕ) (xs : List (ℕ × X)) → (find_cell x xs ≡ None) ⊎ (is_some (find_cell x xs) ≡ true)
   none_or_some x xs =
@@ -40,23 +40,9 @@ module _ {X : Type 0} where
   rewritten_none x w [] h = refl
   rewritten_none x w (a ∷ xs) h = let rest = rewritten_none x w xs in grind arith
 
-  without_none : (x : ℕ) (xs : List (ℕ × X)) → find_cell x xs ≡ None → cell.without x xs ≡ xs
+  pub without_none : (x : ℕ) (xs : List (ℕ × X)) → find_cell x xs ≡ None → cell.without x xs ≡ xs
   without_none x [] h = refl
   without_none x (a ∷ xs) h = let rest = without_none x xs in grind arith
-
--- two rows that find the same lines, after each change
-last-found : (row tags : List (ℕ × ℕ)) (line c j : ℕ) → find row j ≡ find tags j →
-    find (put_last row line c) j ≡ find (put_last tags line c) j
-last-found row tags line c j h =
-    grind (arith, find-put_last_same, find-put_last_other)
-
-last-there : (row tags : List (ℕ × ℕ)) (line c j : ℕ) → find row line ≡ Some c → find row j ≡ find tags j →
-    find row j ≡ find (put_last tags line c) j
-last-there row tags line c j h was = grind (arith, find-put_last_same, find-put_last_other)
-
-without-found : (row tags : List (ℕ × ℕ)) (line j : ℕ) → find row j ≡ find tags j →
-    find (without row line) j ≡ find (without tags line) j
-without-found row tags line j h = grind (arith, find-without_same, find-without_other)
 
 module _ {X : Type 0} where
   -- a pair for each cell: its line, and something of the cell
@@ -139,7 +125,7 @@ module _ {X : Type 0} where
       find (tags_of xs) line ≡ Some c → entries_of (cell.without c xs) ≡ without (entries_of xs) line
   cut-entries = cut-line (λ a. a.1.1)
 
-  cut-tags : (xs : List (ℕ × (ℕ × X))) (line c : ℕ) → CellsOnce xs → IsDistinct (tags_of xs) →
+  pub cut-tags : (xs : List (ℕ × (ℕ × X))) (line c : ℕ) → CellsOnce xs → IsDistinct (tags_of xs) →
       find (tags_of xs) line ≡ Some c → tags_of (cell.without c xs) ≡ without (tags_of xs) line
   cut-tags = cut-line (λ a. a.0)
 
@@ -162,78 +148,11 @@ module _ {X : Type 0} where
       tags_of (rewritten c (line, w) (a ∷ xs)) ≡ tags_of (a ∷ xs)
   tag-first a xs line c w part gone rest = let mine = part.mine in let not_mine = part.not_mine in grind arith
 
-  written-tags : (xs : List (ℕ × (ℕ × X))) (line c : ℕ) (w : X) → CellsOnce xs →
+  pub written-tags : (xs : List (ℕ × (ℕ × X))) (line c : ℕ) (w : X) → CellsOnce xs →
       find (tags_of xs) line ≡ Some c → tags_of (rewritten c (line, w) xs) ≡ tags_of xs
   written-tags [] line c w once h = refl
   written-tags (a ∷ xs) line c w once h = tag-first a xs line c w (parted a xs line c once h)
       (rewritten_none c (line, w) xs) (written-tags xs line c w once.1)
-
-  -- what a row keeps of its list after each change
-  fits-by : (ways : ℕ) (row : List (ℕ × ℕ)) (xs : List (ℕ × (ℕ × X))) (tags : List (ℕ × ℕ)) → tags_of xs ≡ tags →
-      length tags ≤ ways → length row ≤ length tags → ((line : ℕ) → find row line ≡ find tags line) → IsDistinct row →
-      IsDistinct tags → Fits ways row xs
-  fits-by ways row xs tags e within short found distinct lines =
-      let long : length (tags_of xs) ≡ length xs = length-map xs (λ (a : ℕ × (ℕ × X)). (a.1.0, a.0)) in
-      let same : length (tags_of xs) ≡ length tags = ap length e in
-      record {
-        within = omega arith;
-        short = omega arith;
-        found = λ line. rw e (found line);
-        distinct = distinct;
-        lines = rw e lines;
-      }
-
-  long-tags : {ways : ℕ} {row : List (ℕ × ℕ)} {xs : List (ℕ × (ℕ × X))} → Fits ways row xs →
-      length (tags_of xs) ≡ length xs
-  long-tags {xs = xs} fits = length-map xs (λ (a : ℕ × (ℕ × X)). (a.1.0, a.0))
-
-  pub fits-pushed : {ways : ℕ} {row : List (ℕ × ℕ)} {xs : List (ℕ × (ℕ × X))} (line c : ℕ) (v : X) → Fits ways row xs →
-      find row line ≡ None → length xs < ways → Fits ways (row ++ (line, c) ∷ []) (xs ++ (c, (line, v)) ∷ [])
-  fits-pushed {ways} {row} {xs} line c v fits none room =
-      let same = missing-without row line (ap is_some none) in
-      let gone = missing-without (tags_of xs) line (ap is_some (sym (fits.found line) ∙ none)) in
-      let row_is : put_last row line c ≡ row ++ (line, c) ∷ [] = ap (λ us. us ++ (line, c) ∷ []) same in
-      let all = length_push row (line, c) in let tags = length_push (without (tags_of xs) line) (line, c) in
-      let kept = ap length gone in let long = long-tags fits in let short = fits.short in
-      fits-by ways (row ++ (line, c) ∷ []) (xs ++ (c, (line, v)) ∷ []) (put_last (tags_of xs) line c)
-      (map_push _ xs (c, (line, v)) ∙ ap (λ us. us ++ (line, c) ∷ []) (sym gone))
-      (omega arith) (omega arith)
-      (λ j. rw (← row_is) (last-found row (tags_of xs) line c j (fits.found j)))
-      (rw (← row_is) (IsDistinct-put_last row line c fits.distinct))
-      (IsDistinct-put_last (tags_of xs) line c fits.lines)
-
-  pub fits-written : {ways : ℕ} {row : List (ℕ × ℕ)} {xs : List (ℕ × (ℕ × X))} (line : ℕ) {c : ℕ} (w : X) →
-      Fits ways row xs → CellsOnce xs → find row line ≡ Some c → Fits ways row (rewritten c (line, w) xs)
-  fits-written {ways} {row} {xs} line {c} w fits once h =
-      let long = long-tags fits in let within = fits.within in let short = fits.short in
-      fits-by ways row (rewritten c (line, w) xs) (tags_of xs)
-      (written-tags xs line c w once (sym (fits.found line) ∙ h)) (omega arith) (omega arith) fits.found fits.distinct
-      fits.lines
-
-  pub fits-moved : {ways : ℕ} {row : List (ℕ × ℕ)} {xs : List (ℕ × (ℕ × X))} (line : ℕ) {c : ℕ} (w : X) → Fits ways
-      row xs → CellsOnce xs → find row line ≡ Some c → Fits ways row (cell.without c xs ++ (c, (line, w)) ∷ [])
-  fits-moved {ways} {row} {xs} line {c} w fits once h =
-      let tag = sym (fits.found line) ∙ h in
-      let fewer = length-without_exact (tags_of xs) line fits.lines (ap is_some tag) in
-      let more = length_push (without (tags_of xs) line) (line, c) in
-      let long = long-tags fits in let within = fits.within in let short = fits.short in
-      fits-by ways row (cell.without c xs ++ (c, (line, w)) ∷ []) (put_last (tags_of xs) line c)
-      (map_push _ (cell.without c xs) (c, (line, w))
-      ∙ ap (λ us. us ++ (line, c) ∷ []) (cut-tags xs line c once fits.lines tag))
-      (omega arith) (omega arith)
-      (λ j. last-there row (tags_of xs) line c j h (fits.found j))
-      fits.distinct (IsDistinct-put_last (tags_of xs) line c fits.lines)
-
-  pub fits-cut : {ways : ℕ} {row new : List (ℕ × ℕ)} {xs : List (ℕ × (ℕ × X))} (line : ℕ) {c : ℕ} → Fits ways row xs →
-      CellsOnce xs → find row line ≡ Some c → IsCut row line new → Fits ways new (cell.without c xs)
-  fits-cut {ways} {row} {new} {xs} line {c} fits once h cut =
-      let tag = sym (fits.found line) ∙ h in
-      let fewer = length-without_exact (tags_of xs) line fits.lines (ap is_some tag) in
-      let shorter = cut.fewer in let long = long-tags fits in let within = fits.within in let short = fits.short in
-      fits-by ways new (cell.without c xs) (without (tags_of xs) line)
-      (cut-tags xs line c once fits.lines tag) (omega arith) (omega arith)
-      (λ j. cut.found j ∙ without-found row (tags_of xs) line j (fits.found j)) cut.distinct
-      (IsDistinct-without (tags_of xs) line fits.lines)
 
   -- the lines after a cell with a new value is moved to the end
   pub moved-entries : (xs : List (ℕ × (ℕ × X))) (line c : ℕ) (w : X) → CellsOnce xs → IsDistinct (tags_of xs) →

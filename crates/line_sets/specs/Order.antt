@@ -1,6 +1,6 @@
 -- One set: what is kept of each of its lines, in order of use, from the least recently used line to the most recently
 -- used one.
-use Rattle.std.specs.Prelude.{◌≡◌, ℕ, zero, suc, ◌==◌, Bool, true, false, List, [], ◌∷◌, ◌++◌, map, filter, is_some}
+use Rattle.std.specs.Prelude.{◌≡◌, ℕ, ◌==◌, Bool, false, List, [], ◌∷◌, ◌++◌, map, filter, is_some}
 use Rattle.std.specs.Prelude.{Option, Some, None, if◌then◌else◌, option_map}
 use Rattle.std.specs.List as list
 
@@ -44,14 +44,3 @@ oldest (p ∷ ps) = Some p.0
 -- the least recently used line of a value that passes a test
 abbrev pub first_where : {X : Type 0} → (X → Bool) → List (ℕ × X) → Option ℕ
 first_where passes ps = option_map (λ p. p.0) (list.find (λ p. passes p.1) ps)
-
--- the line is at this index, and not before it
-abbrev pub IsFirstAt : {X : Type 0} → List (ℕ × X) → ℕ → ℕ → Type 0
-IsFirstAt [] line at = ⊥
-IsFirstAt (p ∷ ps) line zero = (p.0 == line) ≡ true
-IsFirstAt (p ∷ ps) line (suc at) = ((p.0 == line) ≡ false) × IsFirstAt ps line at
-
--- the index of a line, if it is there
-abbrev pub IsIndexOf : {X : Type 0} → List (ℕ × X) → ℕ → Option ℕ → Type 0
-IsIndexOf ps line None = is_there ps line ≡ false
-IsIndexOf ps line (Some at) = IsFirstAt ps line at

@@ -1,23 +1,13 @@
 -- How a table is stored: lists of lines and values in the cells of an arena, in order of use, and beside them a row of
--- lines and cells for each set.
-use Rattle.std.specs.Prelude.{◌≡◌, ℕ, ◌+◌, ◌*◌, ◌/◌, ◌%◌, ◌^◌, ◌<◌, ◌≤◌, Bool, not, List, [], length, map, get_or}
+-- tags and cells for each set.
+use Rattle.std.specs.Prelude.{◌≡◌, ℕ, ◌+◌, ◌*◌, ◌<◌, ◌≤◌, Bool, not, List, [], length, map, get_or, Option, Some, None}
+use Rattle.std.specs.Prelude.{option_map}
 use Rattle.line_arena.specs.Arenas.{Lists}
-use Rattle.line_sets.specs.Order.{find, lines_passing, without, IsDistinct}
-use Rattle.line_sets.specs.SetTable.{set_at}
-
--- the tag of a line: the upper eight of 64 bits of its product with an odd number (2^64 by the golden ratio)
-unfoldable pub tag_of : ℕ → ℕ
-tag_of line = line * 11400714819323198485 % 2 ^ 64 / 2 ^ 56
-
--- each of so many lines has its tag
-pub record AreTagged (count : ℕ) (tags : List ℕ) (entries : List (ℕ × ℕ)) : Type 0 where
-  pub each : (k : ℕ) → k < count → get_or tags k 0 ≡ tag_of (get_or entries k (0, 0)).0
-
--- a row without one of its lines, in any order
-pub record IsCut (row : List (ℕ × ℕ)) (line : ℕ) (new : List (ℕ × ℕ)) : Type 0 where
-  pub fewer : length new + 1 ≡ length row
-  pub found : (other : ℕ) → find new other ≡ find (without row line) other
-  pub distinct : IsDistinct new
+use Rattle.line_arena.specs.CellLists.{find_cell}
+use Rattle.line_sets.specs.declared.entries.Row.{Row}
+use Rattle.line_sets.specs.Order.{find, lines_passing, IsDistinct}
+use Rattle.line_sets.specs.TaggedRows.{row_at, HasCell}
+use Rattle.line_sets.specs.Tags.{tag_of}
 
 module _ {X : Type 0} where
   -- the lines and values of a list of cells
@@ -32,21 +22,38 @@ module _ {X : Type 0} where
   abbrev pub sets_of : List (List (ℕ × (ℕ × X))) → List (List (ℕ × X))
   sets_of lists = map entries_of lists
 
-  -- a row has the lines of the list, each with its cell
-  pub record Fits (ways : ℕ) (row : List (ℕ × ℕ)) (cells : List (ℕ × (ℕ × X))) : Type 0 where
-    pub within : length cells ≤ ways
-    pub short : length row ≤ length cells
-    pub found : (line : ℕ) → find row line ≡ find (tags_of cells) line
-    pub distinct : IsDistinct row
+  -- the tag of the line of a cell
+  abbrev pub tag_in : List (ℕ × (ℕ × X)) → ℕ → Option ℕ
+  tag_in cells c = option_map (λ p. tag_of p.0) (find_cell c cells)
+
+  -- a row has the cells of the list, each once, with the tags of their lines
+  pub record Fits (row : Row) (cells : List (ℕ × (ℕ × X))) : Type 0 where
+    pub sized : (length row.tags ≡ 16) × (length row.cells ≡ 16)
+    pub few : row.count ≤ 16
+    pub many : row.count ≡ length cells
+    pub each : (k : ℕ) → k < row.count → tag_in cells (get_or row.cells k 0) ≡ Some (get_or row.tags k 0)
+    pub all : (c tag : ℕ) → tag_in cells c ≡ Some tag → HasCell row c
+    pub once : (j k : ℕ) → j < row.count → k < row.count → get_or row.cells j 0 ≡ get_or row.cells k 0 → j ≡ k
     pub lines : IsDistinct (tags_of cells)
 
+  -- each row is that of a list
+  abbrev pub AreRows : List Row → List (List (ℕ × (ℕ × X))) → Type 0
+  AreRows rows lists = (set : ℕ) → set < length lists → Fits (row_at rows set) (get_or lists set [])
+
+  -- the place of a line of a list in its row, if it is there
+  abbrev pub IsPlaceIn : Row → List (ℕ × (ℕ × X)) → ℕ → Option ℕ → Type 0
+  IsPlaceIn row cells line None = find (tags_of cells) line ≡ None
+  IsPlaceIn row cells line (Some at) = (at < row.count) × (row.count ≤ 16)
+      × (find (tags_of cells) line ≡ Some (get_or row.cells at 0))
+
   -- each set has a list with ways for all its lines, and a row that fits
-  pub record IsStored (ways : ℕ) (arena : Lists (ℕ × X)) (rows : List (List (ℕ × ℕ))) : Type 0 where
+  pub record IsStored (ways : ℕ) (arena : Lists (ℕ × X)) (rows : List Row) : Type 0 where
     pub cells : arena.cells ≡ length arena.lists * ways
     pub narrow : ways ≤ 16
     pub small : length arena.lists ≤ 1024
     pub many : length rows ≡ length arena.lists
-    pub fits : (set : ℕ) → set < length arena.lists → Fits ways (set_at rows set) (get_or arena.lists set [])
+    pub within : (set : ℕ) → set < length arena.lists → length (get_or arena.lists set []) ≤ ways
+    pub fits : AreRows rows arena.lists
 
 -- how many values of each set don't pass a test
 abbrev pub counts_without : {X : Type 0} → (X → Bool) → List (List (ℕ × X)) → List ℕ

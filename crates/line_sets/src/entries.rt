@@ -1,34 +1,23 @@
-//! One row: lines, each with the cell where it is kept, and with a tag that finds it.
-ghost use Rattle.std.specs.Prelude.{◌≡◌, ◌<◌, ◌++◌, ◌∷◌, ◌==◌, [], length, not, IfSome, None};
+//! One row: where the lines of a set lie. A line is found by its tag.
+ghost use Rattle.std.specs.Prelude.{◌≡◌, ◌<◌, ◌≤◌, ◌==◌, ℕ, get_or, not, IsSome};
 ghost use Rattle.std.specs.List.{prefix_len};
-ghost use Rattle.line_sets.specs.Order.{find, IsDistinct, IsIndexOf};
-ghost use Rattle.line_sets.specs.Stored.{tag_of, IsCut};
+ghost use Rattle.line_arena.specs.CellLists.{look_up};
+ghost use Rattle.line_sets.specs.TaggedRows.{no_row, freed, with_line, IsPlaceOf};
+ghost use Rattle.line_sets.specs.Tags.{tag_of};
 
-use std::marker::Model;
+use line_arena::{Arena, Cell};
 use std::simd::prelude::*;
 
-/// Lines with their cells, 16 at most. The tags and how many lines there are stand before the lines: a search compares
-/// all tags at once, and seldom reads more than one line. Contracts see the list.
-#[derive(Drop)]
+/// The tags of up to 16 lines, how many there are, and the cell of each. A line's number lies in its cell alone.
+#[derive(Clone, Copy)]
 pub struct Row {
-    tags: [u8; 16],
-    count: u32,
-    entries: [(u64, u32); 16],
-}
-
-impl Model for Row {
-    ghost use Rattle.std.specs.Prelude.{◌≤◌, List, ℕ, take};
-    ghost use Rattle.line_sets.specs.Stored.{AreTagged};
-
-    ghost Value = { List (ℕ × ℕ) };
-
-    ghost view = { λ row. take row.count row.entries };
-
-    ghost invariant = { λ row. (row.count ≤ 16) × AreTagged row.count row.tags row.entries };
+    pub(crate) tags: [u8; 16],
+    pub(crate) count: u16,
+    pub(crate) cells: [u16; 16],
 }
 
 /// The tag of a line.
-#[tactic(auto, unfolding(crate::specs::Stored::tag_of))]
+#[tactic(auto, unfolding(crate::specs::Tags::tag_of))]
 #[inline(always)]
 fn tag_of(line: u64) -> u8
     ensures { result ≡ tag_of line }
@@ -50,91 +39,78 @@ fn others_before(tags: &[u8; 16], tag: u8) -> usize
     same.trailing_zeros() as usize
 }
 
-/// The index of a line, which is searched from the last line on.
-#[inline(always)]
-fn searched_index_of(entries: &[(u64, u32)], line: u64) -> Option<usize>
-    requires { IsDistinct entries.now }
-    ensures index { IsIndexOf entries.now line result }
-    ensures below { IfSome result (λ at. at < length entries.now) }
-{
-    let mut left = entries.len();
-    while left > 0 {
-        left -= 1;
-        if entries[left].0 == line {
-            return Some(left);
-        }
-    }
-    None
-}
-
 impl Row {
     /// No lines.
     pub(crate) fn new() -> Row
-        ensures { result ≡ [] }
+        ensures { result ≡ no_row }
     {
         Row {
             tags: [0; 16],
             count: 0,
-            entries: [(0, 0); 16],
+            cells: [0; 16],
         }
     }
 
-    /// The index of a line. It is that of the first line with the same tag, but where two lines have one tag.
+    /// The place of a line. It is the first with the line's tag, but where two lines have one tag.
     #[inline(always)]
-    fn index_of(&self, line: u64) -> Option<usize>
-        requires { IsDistinct self.now }
-        ensures index { IsIndexOf self.now line result }
-        ensures below { IfSome result (λ at. at < length self.now) }
+    pub(crate) fn place_of<V>(&self, arena: &Arena<(u64, V)>, line: u64) -> Option<usize>
+        requires few { self.now.count ≤ 16 }
+        requires cells { (k : ℕ) → k < self.now.count →
+            IsSome (look_up (get_or self.now.cells k 0) arena.now.lists) }
+        ensures { IsPlaceOf self.now arena.now.lists line result }
     {
-        let count = self.count as usize;
-        let at = others_before(&self.tags, tag_of(line));
-        if at >= count {
+        let tag = tag_of(line);
+        let at = others_before(&self.tags, tag);
+        if at >= self.count as usize {
             return None;
         }
-        if self.entries[at].0 == line {
+        if arena.get(Cell(self.cells[at] as u32)).0 == line {
             return Some(at);
         }
-        searched_index_of(&self.entries[..count], line)
+        self.searched_place_of(arena, line, tag)
     }
 
-    /// The cell of a line.
-    #[inline(always)]
-    pub(crate) fn find(&self, line: u64) -> Option<u32>
-        requires { IsDistinct self.now }
-        ensures { result ≡ find self.now line }
+    // The place of a line, searched from the last on.
+    fn searched_place_of<V>(&self, arena: &Arena<(u64, V)>, line: u64, tag: u8) -> Option<usize>
+        requires tag { tag ≡ tag_of line }
+        requires few { self.now.count ≤ 16 }
+        requires cells { (k : ℕ) → k < self.now.count →
+            IsSome (look_up (get_or self.now.cells k 0) arena.now.lists) }
+        ensures { IsPlaceOf self.now arena.now.lists line result }
     {
-        match self.index_of(line) {
-            Some(at) => Some(self.entries[at].1),
-            None => None,
+        let mut left = self.count as usize;
+        while left > 0 {
+            left -= 1;
+            if self.tags[left] != tag {
+                continue;
+            }
+            if arena.get(Cell(self.cells[left] as u32)).0 == line {
+                return Some(left);
+            }
         }
+        None
     }
 
     /// Puts a line with its cell at the end.
     pub(crate) fn push(&mut self, line: u64, cell: u32)
-        requires { length self.old < 16 }
-        ensures { self.new ≡ self.old ++ (line, cell) ∷ [] }
+        requires room { self.old.count < 16 }
+        requires cell { cell < 65536 }
+        ensures { self.new ≡ with_line line cell self.old }
     {
         self.tags[self.count as usize] = tag_of(line);
-        self.entries[self.count as usize] = (line, cell);
+        self.cells[self.count as usize] = cell as u16;
         self.count += 1;
     }
 
-    /// Takes a line out, if it is there, and gives its cell. The last line takes its place.
+    /// Takes the line of a place out. The last line takes its place.
     #[inline(always)]
-    pub(crate) fn take(&mut self, line: u64) -> Option<u32>
-        requires { IsDistinct self.old }
-        ensures value { result ≡ find self.old line }
-        ensures absent { result ≡ None → self.new ≡ self.old }
-        ensures items { IfSome result (λ _. IsCut self.old line self.new) }
+    pub(crate) fn free(&mut self, at: usize)
+        requires { (at < self.old.count) × (self.old.count ≤ 16) }
+        ensures { self.new ≡ freed at self.old }
     {
-        let count = self.count as usize;
-        let Some(at) = self.index_of(line) else {
-            return None;
-        };
-        let cell = self.entries[at].1;
-        self.tags[at] = self.tags[count - 1];
-        self.entries[at] = self.entries[count - 1];
+        let last = self.count as usize - 1;
+        self.tags[at] = self.tags[last];
+        self.cells[at] = self.cells[last];
         self.count -= 1;
-        Some(cell)
     }
 }

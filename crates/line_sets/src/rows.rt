@@ -1,51 +1,53 @@
-//! Where the lines of each set are kept: a row of lines with their cells for each set that had a line.
-ghost use Rattle.std.specs.Prelude.{◌≡◌, ◌<◌, ◌≤◌, [], ◌∷◌, ◌++◌, length, replicate, slice_set, IfOk, IfSome, None};
-ghost use Rattle.line_sets.specs.Order.{find, IsDistinct};
-ghost use Rattle.line_sets.specs.Stored.{IsCut};
-ghost use Rattle.line_sets.specs.SetTable.{set_at};
+//! Where the lines of each set lie: a row of tags and cells for each set.
+ghost use Rattle.std.specs.Prelude.{◌≡◌, ◌<◌, ◌≤◌, [], get_or, length, replicate, slice_set, IfOk, IfSome, None};
+ghost use Rattle.line_sets.specs.Order.{find};
+ghost use Rattle.line_sets.specs.TaggedRows.{no_row, row_at, with_line, IsCut};
+ghost use Rattle.line_sets.specs.Stored.{tags_of, AreRows, IsPlaceIn};
 
 use crate::entries::Row;
+use line_arena::Arena;
+use line_arena::laws::looked_up;
 use std::alloc::{AllocError, Global};
 use std::marker::Model;
 
-/// A row of lines with their cells for each set, at most 16 each. A set has its row from its first line on, so no row
-/// is written before. Contracts see the list of rows, by set.
+/// A row of tags and cells for each set, at most 16 each. Contracts see the list of rows, by set.
 #[derive(Drop)]
 pub struct Rows {
-    // The number of the row of each set that had a line.
-    places: Vec<Option<u32>>,
-    // The set of each row.
-    sets: Vec<u32>,
     rows: Vec<Row>,
+    // The sets that had a line.
+    sets: Vec<u32>,
+    // Where each of these is among them.
+    places: Vec<Option<u32>>,
 }
 
 impl Model for Rows {
     ghost use Rattle.std.specs.Prelude.{List, ℕ, vec_capacity};
-    ghost use Rattle.line_sets.specs.RowPlaces.{rows_of, HasRoom, IsSpread};
+    ghost use Rattle.line_sets.specs.declared.entries.Row.{Row};
+    ghost use Rattle.line_sets.specs.TaggedRows.{HasRoom, IsSpread};
 
-    ghost Value = { List (List (ℕ × ℕ)) };
+    ghost Value = { List Row };
 
-    ghost view = { λ r. rows_of r.places.items r.rows.items };
+    ghost view = { λ r. r.rows.items };
 
-    ghost invariant = { λ r. IsSpread r.places.items r.sets.items r.rows.items × HasRoom r.places.items (vec_capacity r.sets) (vec_capacity r.rows) };
+    ghost invariant = { λ r. IsSpread r.places.items r.sets.items r.rows.items × HasRoom r.places.items (vec_capacity r.sets) };
 }
 
 impl Rows {
     /// Empty rows of 1,048,576 sets at most. All memory is taken here.
     pub(crate) fn new(alloc: Global, sets: u32) -> Result<Rows, AllocError>
         requires { sets ≤ 1048576 }
-        ensures { IfOk result (λ rows. rows ≡ replicate sets []) }
+        ensures { IfOk result (λ rows. rows ≡ replicate sets no_row) }
     {
-        let rows = Vec::with_capacity(alloc, sets as usize)?;
+        let rows = vec![in alloc; Row::new(); sets as usize]?;
         let of_rows = Vec::with_capacity(alloc, sets as usize)?;
         let mut places = Vec::with_capacity(alloc, sets as usize)?;
         for _ in 0..sets {
             places.push_reserved(None);
         }
         Ok(Rows {
-            places,
-            sets: of_rows,
             rows,
+            sets: of_rows,
+            places,
         })
     }
 
@@ -54,62 +56,76 @@ impl Rows {
         *self.rows.allocator()
     }
 
-    /// Takes the rows of all sets away, as if no set had had a line. The time grows with how many sets have one.
+    /// Takes all lines out, as if no set had had one. The time grows with how many sets had one.
     pub(crate) fn clear(&mut self)
-        ensures { self.new ≡ replicate (length self.old) [] }
+        ensures { self.new ≡ replicate (length self.old) no_row }
     {
         for at in 0..self.sets.len() {
             let set = self.sets[at];
             self.places[set as usize] = None;
+            self.rows[set as usize] = Row::new();
         }
         self.sets.clear();
-        self.rows.clear();
+    }
+
+    /// The place of a line in the row of its set.
+    #[inline(always)]
+    fn place_of<V>(&self, arena: &Arena<(u64, V)>, set: usize, line: u64) -> Option<usize>
+        requires in_table { set < length self.now }
+        requires many { length self.now ≡ length arena.now.lists }
+        requires fits { AreRows self.now arena.now.lists }
+        ensures { IsPlaceIn (row_at self.now set) (get_or arena.now.lists set []) line result }
+    {
+        looked_up::<(u64, V)>();
+        let _lists = arena.lists();
+        self.rows[set].place_of(arena, line)
     }
 
     /// The cell of a line in a set.
     #[inline(always)]
-    pub(crate) fn find(&self, set: usize, line: u64) -> Option<u32>
+    pub(crate) fn find<V>(&self, arena: &Arena<(u64, V)>, set: usize, line: u64) -> Option<u32>
         requires in_table { set < length self.now }
-        requires distinct { IsDistinct (set_at self.now set) }
-        ensures { result ≡ find (set_at self.now set) line }
+        requires many { length self.now ≡ length arena.now.lists }
+        requires fits { AreRows self.now arena.now.lists }
+        ensures { result ≡ find (tags_of (get_or arena.now.lists set [])) line }
     {
-        match self.places[set] {
+        match self.place_of(arena, set, line) {
             None => None,
-            Some(place) => self.rows[place as usize].find(line),
+            Some(at) => Some(self.rows[set].cells[at] as u32),
         }
     }
 
     /// Puts a line with its cell at the end of the row of its set.
     pub(crate) fn push(&mut self, set: usize, line: u64, cell: u32)
         requires in_table { set < length self.old }
-        requires room { length (set_at self.old set) < 16 }
-        ensures { self.new ≡ slice_set self.old set (set_at self.old set ++ (line, cell) ∷ []) }
+        requires room { (row_at self.old set).count < 16 }
+        requires cell { cell < 65536 }
+        ensures { self.new ≡ slice_set self.old set (with_line line cell (row_at self.old set)) }
     {
-        let Some(place) = self.places[set] else {
-            let place = self.rows.len() as u32;
-            let mut row = Row::new();
-            row.push(line, cell);
-            self.rows.push_reserved(row);
+        let Some(_) = self.places[set] else {
+            self.places[set] = Some(self.sets.len() as u32);
             self.sets.push_reserved(set as u32);
-            self.places[set] = Some(place);
+            self.rows[set].push(line, cell);
             return;
         };
-        self.rows[place as usize].push(line, cell);
+        self.rows[set].push(line, cell);
     }
 
     /// Takes a line out of the row of its set, if it is there, and gives its cell.
     #[inline(always)]
-    pub(crate) fn take(&mut self, set: usize, line: u64) -> Option<u32>
+    pub(crate) fn take<V>(&mut self, arena: &Arena<(u64, V)>, set: usize, line: u64) -> Option<u32>
         requires in_table { set < length self.old }
-        requires distinct { IsDistinct (set_at self.old set) }
-        ensures value { result ≡ find (set_at self.old set) line }
+        requires many { length self.old ≡ length arena.now.lists }
+        requires fits { AreRows self.old arena.now.lists }
+        ensures value { result ≡ find (tags_of (get_or arena.now.lists set [])) line }
         ensures absent { result ≡ None → self.new ≡ self.old }
-        ensures others { self.new ≡ slice_set self.old set (set_at self.new set) }
-        ensures row { IfSome result (λ _. IsCut (set_at self.old set) line (set_at self.new set)) }
+        ensures cut { IfSome result (λ cell. IsCut self.old set cell self.new) }
     {
-        let Some(place) = self.places[set] else {
+        let Some(at) = self.place_of(arena, set, line) else {
             return None;
         };
-        self.rows[place as usize].take(line)
+        let cell = self.rows[set].cells[at] as u32;
+        self.rows[set].free(at);
+        Some(cell)
     }
 }

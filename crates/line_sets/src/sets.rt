@@ -32,7 +32,7 @@ pub struct LineSets<V: Listed> {
     unlisted: Vec<u8>,
     // Each set's lines and values, in order of use.
     arena: Arena<(u64, V)>,
-    // Each set's lines and their cells of the arena.
+    // Each set's cells of the arena, with the tags of their lines.
     rows: Rows,
     // The listed lines in rising order, if they are kept so.
     order: RankedLines,
@@ -125,7 +125,7 @@ impl<V: Copy + Listed> LineSets<V> {
     {
         looked_up::<(u64, V)>();
         let _lists = self.arena.lists();
-        let Some(cell) = self.rows.find(set, line) else {
+        let Some(cell) = self.rows.find(&self.arena, set, line) else {
             return None;
         };
         Some(&self.arena.get(Cell(cell)).1)
@@ -186,7 +186,7 @@ impl<V: Copy + Listed> LineSets<V> {
         looked_up::<(u64, V)>();
         taken_off::<(u64, V)>();
         let _lists = self.arena.lists();
-        let Some(cell) = self.rows.find(set, line) else {
+        let Some(cell) = self.rows.find(&self.arena, set, line) else {
             self.add(set, line, value);
             return;
         };
@@ -212,9 +212,9 @@ impl<V: Copy + Listed> LineSets<V> {
         requires way { IsTrue (has_place self.old set line) }
         ensures { self.new ≡ record self.old { sets = put self.old.sets set line value } }
     {
-        let _lists = self.arena.lists();
         let pushed = self.arena.push_back(set as u32, (line, value));
         let cell = pushed.unwrap();
+        let _lists = self.arena.lists();
         self.rows.push(set, line, cell.0);
         let after = count_of(&value);
         self.listed += after;
@@ -231,7 +231,7 @@ impl<V: Copy + Listed> LineSets<V> {
     {
         looked_up::<(u64, V)>();
         let _lists = self.arena.lists();
-        if let Some(cell) = self.rows.find(set, line) {
+        if let Some(cell) = self.rows.find(&self.arena, set, line) {
             let old = &self.arena.get(Cell(cell)).1;
             let before = count_of(old);
             let after = count_of(&value);
@@ -253,7 +253,7 @@ impl<V: Copy + Listed> LineSets<V> {
         looked_up::<(u64, V)>();
         taken_off::<(u64, V)>();
         let _lists = self.arena.lists();
-        let Some(cell) = self.rows.take(set, line) else {
+        let Some(cell) = self.rows.take(&self.arena, set, line) else {
             return None;
         };
         let (_line, value) = self.arena.unlink(Cell(cell));

@@ -1,6 +1,6 @@
 use Rattle.std.proofs.Common.{◌≡◌, ℕ, Option, None, length, replicate, ap, ◌∙◌, arith}
 use Rattle.std.proofs.lemmas.List.{length-replicate}
-use Rattle.line_sets.proofs.RowLaws.{spread-empty, rows-empty}
+use Rattle.line_sets.proofs.RowLaws.{spread-empty}
 use Rattle.line_sets.proofs.rows.Rows.new.Goals as goal
 
 pub invariant_of-result : goal.invariant_of-result
@@ -9,16 +9,10 @@ invariant_of-result c =
     let empty = c.loop.invariant.0 ∙ ap (λ n. replicate n None) count in
     let long : length c.loop.places.items ≡ c.args.sets = ap length empty
     ∙ length-replicate {A = Option ℕ} c.args.sets None in (
-      spread-empty c.args.sets c.loop.places.items _ _ empty c.in_ok-of_rows.ensures.items c.in_ok-rows.ensures.items,
+      spread-empty c.args.sets c.loop.places.items _ _ empty c.in_ok-of_rows.ensures.items
+          (c.in_ok-rows.ensures.items_if_clones_equal (λ y e. e) ∙ ap (replicate c.args.sets) c.new.ensures),
       record {
         for_sets = omega (arith, long, c.in_ok-of_rows.ensures.exact);
-        for_rows = omega (arith, long, c.in_ok-rows.ensures.exact);
         small = omega (arith, long, c.requires);
       },
     )
-
-pub returns : goal.returns
-returns c =
-    let count : c.loop.counter ≡ c.args.sets = omega arith in
-    rows-empty c.args.sets c.loop.places.items c.in_ok-rows.rows.items
-    (c.loop.invariant.0 ∙ ap (λ n. replicate n None) count)

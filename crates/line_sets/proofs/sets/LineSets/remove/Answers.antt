@@ -30,8 +30,7 @@ pub invariant_of-self-2 : goal.invariant_of-self-2
 invariant_of-self-2 g c =
     let found = is-found c.self.invariant.0 c.lists-lists.ensures.once c.looked_up.ensures c.self.view_is c.requires
     (sym c.take.ensures.value ∙ c.in-Some.is) in let was = read-value found c.unlink-line.ensures.value in
-    let new = cut-off found c.taken_off.ensures c.unlink-line.ensures.after c.take.ensures.others
-    c.in-Some.ensures.row in
+    let new = cut-off found c.taken_off.ensures c.unlink-line.ensures.after c.in-Some.ensures.cut in
     let before = c.count_of-before.ensures.count in (
       new.stored,
       omega (arith, counted g.V.Listed.is_listed new was {m = 0} before refl c.self.invariant.1),
@@ -52,8 +51,7 @@ returns-clause-after g c =
     let found = is-found c.self.invariant.0 c.lists-lists.ensures.once c.looked_up.ensures c.self.view_is c.requires
     (sym c.take.ensures.value ∙ c.in-Some.is) in
     rw (← c.self.view_is) (ap (table_of c.self.inside.ways)
-    (cut-off found c.taken_off.ensures c.unlink-line.ensures.after c.take.ensures.others
-    c.in-Some.ensures.row).are)
+    (cut-off found c.taken_off.ensures c.unlink-line.ensures.after c.in-Some.ensures.cut).are)
 
 pub overflow_sub-self : goal.overflow_sub-self
 overflow_sub-self g c =

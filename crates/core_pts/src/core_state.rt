@@ -214,6 +214,13 @@ impl Core {
         self.cache.keep_order()
     }
 
+    /// Stops keeping the lines in rising order. The memory for that stays.
+    pub fn pause_order(&mut self)
+        ensures { self.new ≡ self.old }
+    {
+        self.cache.pause_order();
+    }
+
     /// Stops keeping the lines in rising order, and frees the memory for that.
     pub fn forget_order(&mut self)
         ensures { self.new ≡ self.old }

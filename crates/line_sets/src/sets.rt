@@ -79,9 +79,9 @@ impl<V: Copy + Listed> LineSets<V> {
         }
     }
 
-    /// Takes all lines out. No memory is taken, and only that for the rising order is given back. The time grows with
-    /// how many sets had a line since the table was made or cleared, and with the most lines that it had at once; and
-    /// a byte is written for each set.
+    /// Takes all lines out, and pauses the rising order. No memory is taken or given back. The time grows with how many
+    /// sets had a line since the table was made or cleared, and with the most lines that it had at once; and a byte is
+    /// written for each set.
     pub fn clear(&mut self)
         ensures { self.new ≡ empty_sets (length self.old.sets) self.old.ways }
     {
@@ -90,7 +90,7 @@ impl<V: Copy + Listed> LineSets<V> {
         self.rows.clear();
         self.listed = 0;
         self.unlisted.fill(0);
-        self.order = RankedLines::none();
+        self.order.pause();
     }
 
     /// A table without lines again, with so many sets and ways. If it has that many, it is cleared, which takes no
@@ -307,11 +307,31 @@ impl<V: Copy + Listed> LineSets<V> {
     pub fn keep_order(&mut self) -> Result<(), AllocError>
         ensures { self.new ≡ self.old }
     {
+        if self.resume_order()? {
+            return Ok(());
+        }
         let numbers = self.numbers()?;
         let most = self.sets() * self.ways;
         let order = RankedLines::of(self.rows.allocator(), &numbers, most)?;
         self.order = order;
         Ok(())
+    }
+
+    // The same in memory that stayed; false where that isn't enough, and then nothing has changed.
+    fn resume_order(&mut self) -> Result<bool, AllocError>
+        ensures { self.new ≡ self.old }
+    {
+        let lines = self.gathered()?;
+        let most = self.sets() * self.ways;
+        Ok(self.order.resume(&lines, most))
+    }
+
+    /// Keeps the listed lines in rising order no longer. The memory for that stays: the next `keep_order` takes only that
+    /// for the list of lines.
+    pub fn pause_order(&mut self)
+        ensures { self.new ≡ self.old }
+    {
+        self.order.pause();
     }
 
     /// Keeps the listed lines in rising order no longer, and gives the memory for that back.

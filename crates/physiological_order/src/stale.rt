@@ -1,11 +1,13 @@
 //! Loads that received a value older than the newest one completed.
-ghost use Rattle.std.specs.Prelude.{◌≡◌, ◌↔◌, ◌+◌, ◌*◌, ◌≤◌, length, IsTrue, OnOk, IfOk};
+ghost use Rattle.std.specs.Prelude.{◌≡◌, ◌↔◌, ◌+◌, ◌*◌, ◌≤◌, ◌&&◌, length, nat_lt, IsTrue, OnOk, IfOk};
+ghost use Rattle.std.specs.List.{list_any};
 ghost use Rattle.physiological_order.specs.Counting.{after_steps, looks, looks_of};
-ghost use Rattle.physiological_order.specs.StaleHits.{RisesByNumber, stale_count};
+ghost use Rattle.physiological_order.specs.StaleHits.{RisesByNumber, is_stale_load, stale_count, writes};
 ghost use Rattle.physiological_order.specs.LatestWrites.{later_than, raised, stale_by, latest_after};
 
 use crate::operation::{Op, Record};
 use crate::steps::Steps;
+use crate::word_addr::WordAddr;
 use number_map::NumberMap;
 use std::alloc::{AllocError, Global};
 
@@ -22,7 +24,56 @@ pub fn stale_hits(alloc: Global, records: &[Record]) -> Result<u64, AllocError>
     requires { RisesByNumber records.now }
     ensures { IfOk result (λ count. count ≡ stale_count records.now) }
 {
+    if records.len() <= 16 {
+        return Ok(few_stale_hits(records));
+    }
     stale_hits_counted(alloc, &mut Steps::new(), records)
+}
+
+/// The same number, of few records: each load is compared with all of them, which costs less than a map.
+fn few_stale_hits(records: &[Record]) -> u64
+    ensures { result ≡ stale_count records.now }
+{
+    records
+        .iter()
+        .filter(|record| is_stale(records, record))
+        .count() as u64
+}
+
+/// Whether the record is a load that is a stale hit among the records.
+fn is_stale(records: &[Record], hit: &Record) -> bool
+    ensures { result ≡ is_stale_load hit.now.op records.now hit.now }
+{
+    match hit.op {
+        Op::Load(word) => is_overtaken(records, word, hit),
+        Op::Store(_, _) | Op::Swap(_, _) => false,
+    }
+}
+
+/// Whether some store or swap of the word has a smaller number than the load and a greater time.
+fn is_overtaken(records: &[Record], word: WordAddr, load: &Record) -> bool
+    ensures { result ≡ list_any (λ s. writes s.op word
+        && (nat_lt s.number load.now.number && nat_lt load.now.ts s.ts)) records.now }
+{
+    records.iter().any(|other| overtakes(other, word, load))
+}
+
+/// Whether the record is one.
+fn overtakes(other: &Record, word: WordAddr, load: &Record) -> bool
+    ensures { result ≡ (writes other.now.op word
+        && (nat_lt other.now.number load.now.number && nat_lt load.now.ts other.now.ts)) }
+{
+    writes(other.op, word) && (other.number < load.number && load.ts < other.ts)
+}
+
+/// Whether the operation is a store or a swap of the word.
+fn writes(op: Op, word: WordAddr) -> bool
+    ensures { result ≡ writes op word }
+{
+    match op {
+        Op::Load(_) => false,
+        Op::Store(written, _) | Op::Swap(written, _) => written.word() == word.word(),
+    }
 }
 
 /// What `stale_hits` answers, with a count of its looks into the map of the greatest store times: one for each load,

@@ -1,7 +1,7 @@
 //! A rising list of numbers in blocks, so that little is moved when a number comes or goes.
 ghost use Rattle.std.specs.Prelude.{◌≡◌, ◌≤◌, ◌<◌, ◌+◌, ◌++◌, ◌*◌, ℕ, IfOk, IsTrue, insert, length};
 ghost use Rattle.std.specs.Prelude.{if◌then◌else◌, slice_get, vec_capacity};
-ghost use Rattle.ranked_lines.specs.Rising.{all_but, put_in, take_out, Rises};
+ghost use Rattle.ranked_lines.specs.Rising.{all_but, put_in, sorted, take_out, Rises};
 ghost use Rattle.ranked_lines.specs.Blocked.{block_at, joined, size_at, Filled, IsPlaceOf, DenseBut, Dense};
 
 use crate::rising_list::{Block, ends_below, index_but, kept, put_in, take_out};
@@ -248,6 +248,24 @@ impl Blocks {
             from = to;
         }
         Ok(Blocks { blocks })
+    }
+
+    /// The numbers of a list, rising, in the blocks' memory; false where that has no room for so many numbers at most.
+    pub(crate) fn refill(&mut self, numbers: &[u64], most: usize) -> bool
+        ensures { IsTrue result → (self.new.0 ≡ sorted numbers.now) × (most + 32 < self.new.1 * 32) }
+    {
+        if self.blocks.capacity() < most / 32 + 2 {
+            return false;
+        }
+        self.blocks.clear();
+        let mut left = numbers.len();
+        while 0 < left {
+            left -= 1;
+            if !self.put_in(numbers[left]) {
+                return false;
+            }
+        }
+        true
     }
 
     /// Puts a number into its place, and takes no memory; false where that wants a block more than there is room for,

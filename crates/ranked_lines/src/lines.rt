@@ -13,6 +13,8 @@ use std::marker::Model;
 #[derive(Drop)]
 pub struct RankedLines {
     numbers: Option<Blocks>,
+    // Blocks of numbers that are kept no longer, whose memory stays.
+    spare: Option<Blocks>,
 }
 
 impl Model for RankedLines {
@@ -44,7 +46,10 @@ impl RankedLines {
     pub fn none() -> RankedLines
         ensures { result ≡ None }
     {
-        RankedLines { numbers: None }
+        RankedLines {
+            numbers: None,
+            spare: None,
+        }
     }
 
     /// The numbers of a list that rises are kept, with room for so many numbers at most.
@@ -56,7 +61,34 @@ impl RankedLines {
         let blocks = Blocks::of(alloc, numbers, most)?;
         Ok(RankedLines {
             numbers: Some(blocks),
+            spare: None,
         })
+    }
+
+    /// Nothing is kept any longer. The memory of what was stays.
+    pub fn pause(&mut self)
+        ensures { self.new ≡ None }
+    {
+        if let Some(blocks) = self.numbers.take() {
+            self.spare = Some(blocks);
+        }
+    }
+
+    /// The numbers of a list are kept, rising, in memory that stayed, with room for so many numbers at most. Where none
+    /// stayed that is enough, nothing changes, and the answer is false. No memory is taken.
+    pub fn resume(&mut self, numbers: &[u64], most: usize) -> bool
+        ensures kept { IsTrue result → (blocks : ℕ) × (self.new ≡ Some (sorted numbers.now, blocks)) ×
+            HasRoom most (Some blocks) }
+        ensures refused { result ≡ false → self.new ≡ self.old }
+    {
+        let Some(mut blocks) = self.spare.take() else {
+            return false;
+        };
+        if !blocks.refill(numbers, most) {
+            return false;
+        }
+        self.numbers = Some(blocks);
+        true
     }
 
     /// A line comes, goes or stays: there were so many of it, none or one, and now there are so many. What is kept

@@ -15,8 +15,8 @@ invariant_of-self g c =
       sym (ap (λ sets. length (all_listed g.V.Listed.is_listed sets))
           (ap (λ b. sets_of b.lists) c.clear.ensures ∙ sets-empty n)
           ∙ ap length (none-listed g.V.Listed.is_listed n)),
-      rw c.none.ensures tt,
-      rw c.none.ensures tt,
+      rw c.pause.ensures tt,
+      rw c.pause.ensures tt,
       c.fill.ensures.items (λ y e. e) ∙ ap (λ (k : ℕ). replicate {A = ℕ} k 0) (c.self.inside.unlisted.ok.0
           ∙ ap length c.self.invariant.4
           ∙ length-map (sets_of a.lists) (λ ps. length (lines_passing (λ x. not (g.V.Listed.is_listed x)) ps))

@@ -8,7 +8,7 @@ use Rattle.line_sets.proofs.sets.LineSets.keep_order.Goals as goal
 pub of-requires : goal.of-requires
 of-requires g c =
     rw c.deref.ensures.value
-    (rw c.in_ok-numbers.ensures (rises-sorted (all_listed g.V.Listed.is_listed c.args.self.now.sets)))
+    (rw c.in_ok-numbers.ensures (rises-sorted (all_listed g.V.Listed.is_listed c.resume_order.new.self.sets)))
 
 pub invariant_of-self : goal.invariant_of-self
 invariant_of-self g c =

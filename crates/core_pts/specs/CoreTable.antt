@@ -187,3 +187,11 @@ comes_to_core core line _ = false
 
 abbrev pub core_has_case : CoreState → Message → Bool
 core_has_case core m = is_this_core core.number m.to && comes_to_core core m.line m.body
+
+-- whether a message is a reply of a bank
+abbrev pub is_reply : Body → Bool
+is_reply (ShRep line) = true
+is_reply (ExRep line) = true
+is_reply (RenewRep rts) = true
+is_reply (UpgradeRep rts) = true
+is_reply _ = false

@@ -1,16 +1,19 @@
 //! What a core does with a message.
 ghost use Rattle.std.specs.Prelude.{◌≡◌, ◌≢◌, IfOk, IsSome, IsTrue, false, is_some, Err, None, OnErr, Some};
 ghost use Rattle.network.specs.Sends.{sent_by};
-ghost use Rattle.private_cache.specs.CopyTable.{copy_of, place_for, with_changed, with_used};
-ghost use Rattle.core_pts.specs.CoreTable.{core_has_case, core_table, is_pinned, kept_in, pinned_line};
+ghost use Rattle.network.specs.declared.part.Reaction.TheVariants.{Done};
+ghost use Rattle.private_cache.specs.CopyTable.{arrived, copy_of, place_for, with_changed, with_used};
+ghost use Rattle.core_pts.specs.CoreTable.{core_has_case, core_table, is_pinned, is_reply, kept_in};
+ghost use Rattle.core_pts.specs.CoreTable.{pinned_line};
 
 use crate::core_state::Core;
 use crate::decision::CoreReaction;
-use network::{LineNo, Message, Node, Part, PartError, Reaction};
-use private_cache::LineCopy;
+use network::{Body, LineNo, Message, Node, Part, PartError, Reaction, TimedLine};
+use private_cache::{CopyState, LineCopy};
 
 impl Core {
     // A reply brings this copy of the open operation's line.
+    #[inline(always)]
     fn arrive(&mut self, line: LineNo, copy: LineCopy)
         requires pinned { IsTrue (is_pinned (pinned_line self.old) line) }
         requires place { IsTrue (place_for self.old.cache line) }
@@ -28,6 +31,19 @@ impl Core {
         self.has_copy = true;
     }
 
+    // The same for a line that comes so. It is taken from where it lies in the message.
+    #[inline(never)]
+    fn bring(&mut self, line: LineNo, state: CopyState, timed: &TimedLine)
+        requires pinned { IsTrue (is_pinned (pinned_line self.old) line) }
+        requires place { IsTrue (place_for self.old.cache line) }
+        ensures { self.new ≡ record self.old {
+          cache = with_used self.old.cache line (arrived state timed.now);
+          is_out = false;
+        } }
+    {
+        self.arrive(line, LineCopy::arrived(state, *timed));
+    }
+
     // A reply changes the copy of a line into this one.
     fn grant(&mut self, line: LineNo, copy: LineCopy)
         requires { IsSome (copy_of self.old.cache line) }
@@ -38,6 +54,52 @@ impl Core {
     {
         self.cache.change(line, copy);
         self.is_out = false;
+    }
+
+    /// Whether a message is a reply of a bank.
+    #[inline(always)]
+    pub fn is_reply(body: &Body) -> bool
+        ensures { result ≡ is_reply body.now }
+    {
+        matches!(
+            body,
+            Body::ShRep(_) | Body::ExRep(_) | Body::RenewRep { .. } | Body::UpgradeRep { .. }
+        )
+    }
+
+    /// Takes in a reply: what `deliver` does then, but this call never fails, and the core sends nothing.
+    #[inline(always)]
+    pub fn take_reply(&mut self, message: &Message)
+        requires case { IsTrue (core_has_case self.old message.now) }
+        requires reply { IsTrue (is_reply message.now.body) }
+        ensures { core_table self.old message.now ≡ Some (Done None, self.new) }
+    {
+        let line = message.line;
+        match &message.body {
+            Body::ShRep(timed) => self.bring(line, CopyState::Shared, timed),
+            Body::ExRep(timed) => self.bring(line, CopyState::Exclusive, timed),
+            Body::RenewRep { rts } => {
+                let renewed = self.copy_there(line).renewed(*rts);
+                self.grant(line, renewed);
+            }
+            Body::UpgradeRep { rts } => {
+                let upgraded = self.copy_there(line).upgraded(*rts);
+                self.grant(line, upgraded);
+            }
+            _ => unreachable!(),
+        }
+    }
+
+    // The copy of a line that has one.
+    #[inline(always)]
+    fn copy_there(&self, line: LineNo) -> &LineCopy
+        requires { IsSome (copy_of self.now.cache line) }
+        ensures { Some result.now ≡ copy_of self.now.cache line }
+    {
+        let Some(copy) = self.cache.find(line) else {
+            unreachable!()
+        };
+        copy
     }
 
     // This copy stays of a line that goes back, if any. It isn't the open operation's line.

@@ -1,12 +1,12 @@
 //! The delivery of a message in a machine's parts.
-ghost use Rattle.std.specs.Prelude.{◌≡◌, ◌<◌, ◌&&◌, ◌||◌, ℕ, List, None, Some, false, is_some};
+ghost use Rattle.std.specs.Prelude.{◌≡◌, ◌<◌, ◌&&◌, ◌||◌, ℕ, List, None, Some, false, is_some, unwrap_or};
 ghost use Rattle.std.specs.Prelude.{IfOk, IfSome, IsSome, IsTrue, OnErr, slice_get, slice_set};
 ghost use Rattle.network.specs.declared.part.Reaction.TheVariants.{Held};
 ghost use Rattle.network.specs.Flight.{SameNetwork};
 ghost use Rattle.network.specs.NumberedMessages.{at_number};
 ghost use Rattle.network.specs.Sends.{sent_by};
 ghost use Rattle.core_pts.specs.CoreTable.{CoreState, core_has_case, core_table};
-ghost use Rattle.llc_bank.specs.BankTable.{bank_table, entry_of};
+ghost use Rattle.llc_bank.specs.BankTable.{bank_has_case, bank_table, entry_of};
 ghost use Rattle.machine_table.specs.declared.event.Event.TheVariants.{Deliver};
 ghost use Rattle.machine_table.specs.Machine.{Machine};
 ghost use Rattle.machine_table.specs.Posted.{can_send};
@@ -22,7 +22,7 @@ ghost use Rattle.interleaving_core.specs.StepAnswers.{TakesMemory, asks_memory};
 
 use crate::core_masks::{CoreMasks, note_delivery};
 use crate::plain_answer::PlainAnswer;
-use crate::reactions::deliver_to;
+use crate::reactions::{deliver_to, take};
 use core_pts::Core;
 use dram_mts::Dram;
 use llc_bank::{Bank, Entry};
@@ -30,21 +30,62 @@ use machine_table::Refusal;
 use network::{Body, InFlight, Message, MsgNo, Node};
 use std::alloc::AllocError;
 
-// Whether a message asks a bank for a line that is being loaded, recalled or stored: it is held then, and no line need
-// leave for it.
+// Whether a message is a request that its bank holds and does nothing for; if so, whether that is for the line's sake,
+// which is being loaded, recalled or stored: then no line need leave for it. Else the line's set has no room.
 #[inline(always)]
-fn waits_for_line(bank: &Bank, message: &Message) -> bool
-    ensures value { result ≡ (is_request message.now.body &&
+fn held_request(bank: &Bank, message: &Message) -> Option<bool>
+    ensures value { unwrap_or result false ≡ (is_request message.now.body &&
         is_under_way (entry_of bank.now message.now.line)) }
-    ensures held { IsTrue result → bank_table bank.now message.now ≡ Some (Held, bank.now) }
-    ensures there { IsTrue result → IsTrue (is_some (entry_of bank.now message.now.line)) }
+    ensures held { IsSome result → bank_table bank.now message.now ≡ Some (Held, bank.now) }
+    ensures there { IfSome result (λ waits. IsTrue waits →
+        IsTrue (is_some (entry_of bank.now message.now.line))) }
 {
     match message.body {
-        Body::ShReq { .. } | Body::ExReq { .. } => matches!(
-            bank.entry(message.line),
-            Some(Entry::Loading | Entry::Recalling { .. } | Entry::Storing)
-        ),
-        _ => false,
+        Body::ShReq { .. } | Body::ExReq { .. } => match bank.entry(message.line) {
+            Some(Entry::Loading | Entry::Recalling { .. } | Entry::Storing) => Some(true),
+            Some(Entry::Shared { .. } | Entry::Exclusive { .. }) => None,
+            None => if bank.has_room(message.line) {
+                None
+            } else {
+                Some(false)
+            },
+        },
+        _ => None,
+    }
+}
+
+// A message in flight is delivered to its bank. A bank takes no memory for it.
+fn deliver_to_bank(
+    bank: &mut Bank,
+    flight: &mut InFlight,
+    is_stopped: &mut bool,
+    number: MsgNo,
+) -> PlainAnswer
+    requires there { IsSome (at_number number flight.old.mail.messages) }
+    requires case { IfSome (at_number number flight.old.mail.messages) (λ message.
+        IsTrue (bank_has_case bank.old message)) }
+    requires quiet { IfSome (at_number number flight.old.mail.messages) (λ message.
+        Stays bank.old (bank_table bank.old message)) }
+    requires endpoints { IfSome (at_number number flight.old.mail.messages) (λ message.
+        IsTrue (can_send flight.old.capacity flight.old.mail (sent_by (bank_table bank.old message))) →
+        ReactionHasEndpoints flight.old.cores flight.old.banks (bank_table bank.old message)) }
+    ensures done { IfSome (at_number number flight.old.mail.messages)
+        (λ message. (answer_of result, bank.new, flight.new.mail) ≡ applied flight.old.capacity
+        bank.old flight.old.mail (Some number) (reacted (bank_table bank.old message))) }
+    ensures stop { is_stopped.new ≡ (stops (answer_of result) || is_stopped.old) }
+    ensures set_up { SameNetwork flight.old flight.new }
+{
+    let Some(message) = flight.look(number) else {
+        unreachable!()
+    };
+    if Bank::is_reply(&message.body) {
+        bank.take_reply(message);
+        take(flight, number);
+        return PlainAnswer::Delivered;
+    }
+    match deliver_to(bank, flight, is_stopped, number) {
+        Ok(plain) => plain,
+        Err(AllocError) => unreachable!(),
     }
 }
 
@@ -75,6 +116,15 @@ fn deliver_to_core(
         core.new.open_op ≡ core.old.open_op → AreMasks masks.old cores →
         AreMasks masks.new (slice_set cores number_of_core core.new) }
 {
+    let Some(message) = flight.look(number) else {
+        unreachable!()
+    };
+    if Core::is_reply(&message.body) {
+        core.take_reply(message);
+        take(flight, number);
+        note_delivery(masks, number_of_core, core);
+        return PlainAnswer::Delivered;
+    }
     match deliver_to(core, flight, is_stopped, number) {
         Ok(plain) => {
             note_delivery(masks, number_of_core, core);
@@ -136,12 +186,12 @@ pub(crate) fn deliver(
         }
         Node::Bank(bank) => {
             let bank = &mut banks[bank as usize];
-            if waits_for_line(bank, message) {
-                *waits = true;
+            if let Some(is_waiting) = held_request(bank, message) {
+                *waits = is_waiting;
                 flight.seek(number);
                 return Ok(PlainAnswer::Held);
             }
-            deliver_to(bank, flight, is_stopped, number)
+            Ok(deliver_to_bank(bank, flight, is_stopped, number))
         }
         Node::Dram(bank) => {
             let dram = &mut drams[bank as usize];

@@ -141,9 +141,9 @@ pub(crate) fn send(flight: &mut InFlight, message: Message)
     }
 }
 
-// Takes a message that is in flight.
+/// Takes a message that is in flight.
 #[inline(always)]
-fn take(flight: &mut InFlight, number: MsgNo)
+pub(crate) fn take(flight: &mut InFlight, number: MsgNo)
     ensures { IsWithMail (taken flight.old.mail number) flight.old flight.new }
 {
     let _there = flight.remove(number);

@@ -117,6 +117,14 @@ comes_to_bank from _ entry = false
 abbrev pub bank_has_case : BankState → Message → Bool
 bank_has_case bank m = is_this_bank bank.number m.to && comes_to_bank m.from m.body (entry_of bank m.line)
 
+-- whether a message is a reply of an owner or of DRAM
+abbrev pub is_reply : Body → Bool
+is_reply (FlushRep line) = true
+is_reply (WbRep line) = true
+is_reply (DramLdRep words) = true
+is_reply DramStRep = true
+is_reply _ = false
+
 -- a bank without entries, with this set-up
 abbrev pub empty_bank : BankConfig → BankState
 empty_bank config = record {

@@ -8,13 +8,14 @@ ghost use Rattle.line_sets.specs.SetTable.{all_listed, has_room, has_place};
 ghost use Rattle.llc_bank.specs.SetUp.{IsInRange};
 ghost use Rattle.llc_bank.specs.OnEntry.{finds_place};
 ghost use Rattle.llc_bank.specs.Settled.{is_settled};
-ghost use Rattle.llc_bank.specs.BankTable.{core_of};
+ghost use Rattle.llc_bank.specs.BankTable.{bank_has_case, bank_table, core_of, is_reply};
+ghost use Rattle.network.specs.declared.part.Reaction.TheVariants.{Done};
 
 use crate::choice::choose;
 use crate::config::BankConfig;
 use crate::decision::{
-    Decision, Eviction, decide_eviction, exclusive_request, filled, given_back, shared_request,
-    stored,
+    Decision, Eviction, decide_eviction, exclusive_request, filled, filled_entry, given_back,
+    returned_entry, shared_request, stored,
 };
 use crate::entry::{Entry, Evict, EvictError};
 use dram_mts::MemoryTime;
@@ -130,6 +131,14 @@ impl Bank {
         self.table.find(set, line.0)
     }
 
+    /// Whether the set of a line has fewer entries than ways.
+    #[inline(always)]
+    pub fn has_room(&self, line: LineNo) -> bool
+        ensures { result ≡ has_room self.now.table (set_of self.now line) }
+    {
+        self.table.has_room(self.set_of(line))
+    }
+
     /// The time from which a line that comes from DRAM now would be valid.
     #[inline(always)]
     pub fn memory_time(&self) -> u64
@@ -139,6 +148,7 @@ impl Bank {
     }
 
     // Sets the entry of a line that is there, or has room, and makes it the most recently used of its set.
+    #[inline(always)]
     fn use_entry(&mut self, set: usize, line: LineNo, entry: Entry)
         requires set { set ≡ set_of self.old line }
         requires below { set < length self.old.table.sets }
@@ -149,6 +159,7 @@ impl Bank {
     }
 
     // Gives a line an entry that has none, but room in its set, and makes it the most recently used of its set.
+    #[inline(always)]
     fn add_entry(&mut self, set: usize, line: LineNo, entry: Entry)
         requires set { set ≡ set_of self.old line }
         requires below { set < length self.old.table.sets }
@@ -171,6 +182,7 @@ impl Bank {
     }
 
     // Takes out the entry of a line.
+    #[inline(always)]
     fn drop_entry(&mut self, set: usize, line: LineNo)
         requires set { set ≡ set_of self.old line }
         requires below { set < length self.old.table.sets }
@@ -233,6 +245,39 @@ impl Bank {
                     _ => Decision::NoCase,
                 }
             }
+        }
+    }
+
+    /// Whether a message is a reply of an owner or of DRAM.
+    #[inline(always)]
+    pub fn is_reply(body: &Body) -> bool
+        ensures { result ≡ is_reply body.now }
+    {
+        matches!(
+            body,
+            Body::FlushRep(_) | Body::WbRep(_) | Body::DramLdRep(_) | Body::DramStRep
+        )
+    }
+
+    /// Takes in a reply: what `deliver` does then, but this call never fails, and the bank sends nothing.
+    #[inline(always)]
+    pub fn take_reply(&mut self, message: &Message)
+        requires case { IsTrue (bank_has_case self.old message.now) }
+        requires reply { IsTrue (is_reply message.now.body) }
+        ensures { bank_table self.old message.now ≡ Some (Done None, self.new) }
+    {
+        let line = message.line;
+        let set = self.set_of(line);
+        match &message.body {
+            Body::FlushRep(timed) | Body::WbRep(timed) => {
+                self.change_entry(set, line, returned_entry(timed));
+            }
+            Body::DramLdRep(words) => {
+                let filled = filled_entry(self.memory_time(), words);
+                self.change_entry(set, line, filled);
+            }
+            Body::DramStRep => self.drop_entry(set, line),
+            _ => unreachable!(),
         }
     }
 
@@ -365,7 +410,6 @@ fn core_of(node: Node) -> u32
 
 impl Part for Bank {
     ghost use Rattle.network.specs.Sends.{sent_by};
-    ghost use Rattle.llc_bank.specs.BankTable.{bank_has_case, bank_table};
 
     ghost has_case = { bank_has_case };
 

@@ -1,5 +1,5 @@
 //! What a message and an eviction do to a bank's entry of one line: decisions, which change nothing.
-ghost use Rattle.std.specs.Prelude.{◌≡◌};
+ghost use Rattle.std.specs.Prelude.{◌≡◌, false, true};
 ghost use Rattle.std.specs.Option.{option_copied};
 ghost use Rattle.std.specs.Result.{result_ok};
 ghost use Rattle.llc_bank.specs.OnEntry.{asked_back, evicted, exclusive_request, filled, given_back, leased, loaded};
@@ -160,14 +160,42 @@ pub(crate) fn exclusive_request(
     }
 }
 
+/// The entry of a line that its owner gives back.
+#[inline(always)]
+pub(crate) fn returned_entry(line: &TimedLine) -> Entry
+    ensures { result ≡ Entry.Shared true line.now }
+{
+    Entry::Shared {
+        dirty: true,
+        line: *line,
+    }
+}
+
+/// The entry of a line whose words come from DRAM.
+#[inline(always)]
+pub(crate) fn filled_entry(mts: u64, words: &Words) -> Entry
+    ensures { result ≡ Entry.Shared false
+        (record { wts = mts; rts = mts; words = words.now }) }
+{
+    Entry::Shared {
+        dirty: false,
+        line: TimedLine {
+            wts: mts,
+            rts: mts,
+            words: *words,
+        },
+    }
+}
+
 /// The owner gives the line back.
 #[inline(always)]
 pub(crate) fn given_back(line: TimedLine, entry: Option<&Entry>) -> Decision
     ensures { result ≡ given_back line (option_copied entry.entry) }
 {
-    let returned = Entry::Shared { dirty: true, line };
     match entry {
-        Some(Entry::Exclusive { .. } | Entry::Recalling { .. }) => Decision::Becomes(returned),
+        Some(Entry::Exclusive { .. } | Entry::Recalling { .. }) => {
+            Decision::Becomes(returned_entry(&line))
+        }
         _ => Decision::NoCase,
     }
 }
@@ -178,14 +206,7 @@ pub(crate) fn filled(mts: u64, words: Words, entry: Option<&Entry>) -> Decision
     ensures { result ≡ filled mts words (option_copied entry.entry) }
 {
     match entry {
-        Some(Entry::Loading) => Decision::Becomes(Entry::Shared {
-            dirty: false,
-            line: TimedLine {
-                wts: mts,
-                rts: mts,
-                words,
-            },
-        }),
+        Some(Entry::Loading) => Decision::Becomes(filled_entry(mts, &words)),
         _ => Decision::NoCase,
     }
 }

@@ -1,5 +1,6 @@
-use Rattle.std.proofs.Common.{◌≡◌, ◌∙◌, true, false, IsTrue, Option, Result, Ok, Some, ap, sym, subst, refl, set}
+use Rattle.std.proofs.Common.{◌≡◌, ◌∙◌, false, Option, Result, Ok, Some, ap, sym, subst, refl, set}
 use Rattle.std.proofs.Common.{arith, rules}
+use Rattle.std.specs.Prelude.{is_some, unwrap_or}
 use Rattle.std.proofs.lemmas.Option.{slice_get_within}
 use Rattle.network.specs.declared.part.Reaction.{Reaction}
 use Rattle.network.specs.Flight.{Flight}
@@ -44,14 +45,14 @@ deliver_to_core-requires-clause-few c =
     c.in-Core.is c.index_mut-core.ensures.value) in
     omega (arith, within, is.fits.masked.few)
 
-pub deliver_to-requires-clause-case : goal.deliver_to-requires-clause-case
-deliver_to-requires-clause-case c =
+pub deliver_to_bank-requires-clause-case : goal.deliver_to_bank-requires-clause-case
+deliver_to_bank-requires-clause-case c =
     let is = c.requires.parts.2 in
     gets_case is.are is.kept c.args.number c.in-Some.ensures.value (bank_place _ c.in-Bank.bank)
     c.in-Bank.is c.index_mut-bank.ensures.value
 
-pub deliver_to-requires-clause-endpoints : goal.deliver_to-requires-clause-endpoints
-deliver_to-requires-clause-endpoints c =
+pub deliver_to_bank-requires-clause-endpoints : goal.deliver_to_bank-requires-clause-endpoints
+deliver_to_bank-requires-clause-endpoints c =
     let is = c.requires.parts.2 in
     with_endpoints is.are is.kept c.args.number c.in-Some.ensures.value (bank_place _ c.in-Bank.bank)
     c.in-Bank.is c.index_mut-bank.ensures.value is.fits
@@ -80,13 +81,12 @@ returns-in-Core-clause-fitted c m room is =
     c.deliver_to_core.new.masks c.deliver_to_core.ensures.set_up (omega (arith, same, is.fits.reserved))
     (c.deliver_to_core.ensures.masked cores here open_kept is.fits.masked)
 
-pub returns-then-waits_for_line-clause-done : goal.returns-then-waits_for_line-clause-done
-returns-then-waits_for_line-clause-done c m room is =
+pub returns-in-Some-held_request-clause-done : goal.returns-in-Some-held_request-clause-done
+returns-in-Some-held_request-clause-done c m room is =
     let result : Result PlainAnswer (Unit {0}) = Ok Held in
     let part = c.index_mut-bank.result.now in
     let old = c.args.flight.now in
-    let waits : IsTrue c.waits_for_line.result = search rules in
-    let stays = c.waits_for_line.ensures.held waits in
+    let stays = c.held_request.ensures.held (ap is_some c.in-Some-held_request.is) in
     delivered is.are is.kept c.args.number c.in-Some.ensures.value (bank_place _ c.in-Bank.bank)
     c.in-Bank.is c.index_mut-bank.ensures.value is.fits.capacity_is result part c.seek.new.self.mail
     c.args.is_stopped.now
@@ -97,43 +97,43 @@ returns-then-waits_for_line-clause-done c m room is =
     ∙ ap (λ (r : Option (Reaction × BankState)). applied old.capacity part old.mail (Some c.args.number)
     (reacted r)) (sym stays))) refl
 
-pub returns-then-waits_for_line-clause-told : goal.returns-then-waits_for_line-clause-told
-returns-then-waits_for_line-clause-told c m room is = λ told.
+pub returns-in-Some-held_request-clause-told : goal.returns-in-Some-held_request-clause-told
+returns-in-Some-held_request-clause-told c m room is = λ told.
     let part = c.index_mut-bank.result.now in
     let banks = c.args.banks.now.items in
-    let waits : IsTrue c.waits_for_line.result = search rules in
     let here = part_here is.are is.kept c.args.number c.in-Some.ensures.value (bank_place _ c.in-Bank.bank)
     c.in-Bank.is c.index_mut-bank.ensures.value in
     no_room_made (with_parts m c.args.cores.now.items (set banks c.in-Bank.bank part) c.args.drams.now.items
     c.seek.new.self.mail c.args.is_stopped.now) c.args.number
     (c.in-Some.ensures.value ∙ ap (λ (f : Flight). at_number c.args.number f.mail.messages) (sym c.seek.ensures))
     c.in-Bank.bank c.in-Bank.is (get-set_same banks c.in-Bank.bank part part here)
-    (c.waits_for_line.ensures.there waits)
+    (of_there _ (sym c.in-Some-held_request.is) c.held_request.ensures.there told)
 
-pub returns-else-waits_for_line-clause-done : goal.returns-else-waits_for_line-clause-done
-returns-else-waits_for_line-clause-done c m room is =
+pub returns-in_default-held_request-clause-done : goal.returns-in_default-held_request-clause-done
+returns-in_default-held_request-clause-done c m room is =
+    let result : Result PlainAnswer (Unit {0}) = Ok c.deliver_to_bank.result in
     delivered is.are is.kept c.args.number c.in-Some.ensures.value (bank_place _ c.in-Bank.bank)
-    c.in-Bank.is c.index_mut-bank.ensures.value is.fits.capacity_is _ _ _ _
-    c.deliver_to.ensures.done c.deliver_to.ensures.stop
+    c.in-Bank.is c.index_mut-bank.ensures.value is.fits.capacity_is result _ _ _
+    c.deliver_to_bank.ensures.done c.deliver_to_bank.ensures.stop
 
 pub returns-in-Dram-clause-done : goal.returns-in-Dram-clause-done
 returns-in-Dram-clause-done c m room is =
     delivered is.are is.kept c.args.number c.in-Some.ensures.value (dram_place _ c.in-Dram.bank)
     c.in-Dram.is c.index_mut-dram.ensures.value is.fits.capacity_is _ _ _ _
-    c.deliver_to-in-Dram.ensures.done c.deliver_to-in-Dram.ensures.stop
+    c.deliver_to.ensures.done c.deliver_to.ensures.stop
 
 pub returns-in-Dram-clause-wanted : goal.returns-in-Dram-clause-wanted
 returns-in-Dram-clause-wanted c m room is =
     delivery_wanted is.are is.kept c.args.number c.in-Some.ensures.value (dram_place _ c.in-Dram.bank)
-    c.in-Dram.is c.index_mut-dram.ensures.value is.fits.capacity_is c.deliver_to-in-Dram.result
-    c.deliver_to-in-Dram.ensures.memory
+    c.in-Dram.is c.index_mut-dram.ensures.value is.fits.capacity_is c.deliver_to.result
+    c.deliver_to.ensures.memory
 
 pub returns-in-Dram-clause-store : goal.returns-in-Dram-clause-store
 returns-in-Dram-clause-store c m room is =
     dram_asks is.are c.args.number c.in-Some.ensures.value c.in-Dram.bank c.in-Dram.is
     (part_here is.are is.kept c.args.number c.in-Some.ensures.value (dram_place _ c.in-Dram.bank)
     c.in-Dram.is c.index_mut-dram.ensures.value)
-    c.deliver_to-in-Dram.result c.deliver_to-in-Dram.ensures.sure
+    c.deliver_to.result c.deliver_to.ensures.sure
 
 pub returns-in_default-clause-waits : goal.returns-in_default-clause-waits
 returns-in_default-clause-waits c m room is =
@@ -147,18 +147,16 @@ pub returns-in-Dram-clause-waits : goal.returns-in-Dram-clause-waits
 returns-in-Dram-clause-waits c m room is =
     c.requires.not_yet ∙ sym (waits_where is.are c.args.number c.in-Some.ensures.value c.in-Dram.is)
 
-pub returns-then-waits_for_line-clause-waits : goal.returns-then-waits_for_line-clause-waits
-returns-then-waits_for_line-clause-waits c m room is =
+pub returns-in-Some-held_request-clause-waits : goal.returns-in-Some-held_request-clause-waits
+returns-in-Some-held_request-clause-waits c m room is =
     let here = part_here is.are is.kept c.args.number c.in-Some.ensures.value (bank_place _ c.in-Bank.bank)
     c.in-Bank.is c.index_mut-bank.ensures.value in
-    let waits : c.waits_for_line.result ≡ true = search rules in
     sym (waits_at_bank is.are c.args.number c.in-Some.ensures.value c.in-Bank.is here
-    ∙ sym c.waits_for_line.ensures.value ∙ waits)
+    ∙ sym c.held_request.ensures.value ∙ ap (λ o. unwrap_or o false) c.in-Some-held_request.is)
 
-pub returns-else-waits_for_line-clause-waits : goal.returns-else-waits_for_line-clause-waits
-returns-else-waits_for_line-clause-waits c m room is =
+pub returns-in_default-held_request-clause-waits : goal.returns-in_default-held_request-clause-waits
+returns-in_default-held_request-clause-waits c m room is =
     let here = part_here is.are is.kept c.args.number c.in-Some.ensures.value (bank_place _ c.in-Bank.bank)
     c.in-Bank.is c.index_mut-bank.ensures.value in
-    let goes_on : c.waits_for_line.result ≡ false = search rules in
     c.requires.not_yet ∙ sym (waits_at_bank is.are c.args.number c.in-Some.ensures.value c.in-Bank.is here
-    ∙ sym c.waits_for_line.ensures.value ∙ goes_on)
+    ∙ sym c.held_request.ensures.value ∙ ap (λ o. unwrap_or o false) c.in_default-held_request.is)

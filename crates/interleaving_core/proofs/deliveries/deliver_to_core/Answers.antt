@@ -1,4 +1,29 @@
+use Rattle.std.proofs.Common.{◌≡◌, ◌∙◌, Option, Some, ap, sym}
+use Rattle.network.specs.declared.part.Reaction.{Reaction}
+use Rattle.network.specs.Flight.{Flight}
+use Rattle.network.specs.Mail.{Mail}
+use Rattle.core_pts.specs.CoreTable.{CoreState, core_table}
+use Rattle.machine_table.specs.declared.event.Answer.{Answer}
+use Rattle.machine_table.specs.declared.event.Answer.TheVariants as answer
+use Rattle.machine_table.specs.Step.{reacted}
+use Rattle.interleaving_core.specs.PartChanges.{applied}
+use Rattle.interleaving_core.proofs.Endpoints.{holds_there}
 use Rattle.interleaving_core.proofs.deliveries.deliver_to_core.Goals as goal
 
+pub returns-then-is_reply-clause-done : goal.returns-then-is_reply-clause-done
+returns-then-is_reply-clause-done c =
+    let old = c.args.flight.now in
+    let part = c.args.core.now in
+    let new = c.take_reply.new.self in
+    holds_there (λ x. ◌≡◌ {A = Answer × CoreState × Mail} (answer.Delivered, new, c.take.new.flight.mail)
+    (applied old.capacity part old.mail (Some c.args.number) (reacted (core_table part x))))
+    c.in-Some.ensures.value
+    (ap (λ (f : Flight). (answer.Delivered, new, f.mail)) c.take.ensures
+    ∙ ap (λ (r : Option (Reaction × CoreState)). applied old.capacity part old.mail (Some c.args.number)
+    (reacted r)) (sym c.take_reply.ensures))
+
+pub returns-then-is_reply-clause-masked : goal.returns-then-is_reply-clause-masked
+returns-then-is_reply-clause-masked c = λ cores. c.note_delivery.ensures cores c.args.core.now
+
 pub returns-clause-masked : goal.returns-clause-masked
-returns-clause-masked c = λ cores. c.note_delivery.ensures cores c.args.core.now
+returns-clause-masked c = λ cores. c.note_delivery-in-Ok.ensures cores c.args.core.now

@@ -1,5 +1,5 @@
-//! Texts of examples (docs/EVENTS.md): their lines, the words of a call, answers as they are written, and the loops of a
-//! program that plays files, or lines as they come.
+//! Texts of examples (docs/EVENTS.md): their lines, the words of a call, answers as they are written, and the loops of
+//! a program that plays files, or lines as they come.
 #![tactic(auto)]
 
 pub mod answers;

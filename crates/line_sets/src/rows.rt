@@ -29,7 +29,8 @@ impl Model for Rows {
 
     ghost view = { λ r. r.rows.items };
 
-    ghost invariant = { λ r. IsSpread r.places.items r.sets.items r.rows.items × HasRoom r.places.items (vec_capacity r.sets) };
+    ghost invariant = { λ r. IsSpread r.places.items r.sets.items r.rows.items
+        × HasRoom r.places.items (vec_capacity r.sets) };
 }
 
 impl Rows {

@@ -326,8 +326,8 @@ impl<V: Copy + Listed> LineSets<V> {
         Ok(self.order.resume(&lines, most))
     }
 
-    /// Keeps the listed lines in rising order no longer. The memory for that stays: the next `keep_order` takes only that
-    /// for the list of lines.
+    /// Keeps the listed lines in rising order no longer. The memory for that stays: the next `keep_order` takes only
+    /// that for the list of lines.
     pub fn pause_order(&mut self)
         ensures { self.new ≡ self.old }
     {

@@ -1,4 +1,5 @@
-use Rattle.std.proofs.Common.{◌≡◌, ◌+◌, length, set, if◌then◌else◌, nat_lt, Some, None, refl, sym, ap, subst, ◌∙◌, arith, length-set}
+use Rattle.std.proofs.Common.{◌≡◌, ◌+◌, length, set, if◌then◌else◌, nat_lt, Some, None, refl}
+use Rattle.std.proofs.Common.{sym, ap, subst, ◌∙◌, arith, length-set}
 use Rattle.std.proofs.Common.{get_or-set_same}
 use Rattle.std.proofs.lemmas.List.{get_or_read, set-set}
 use Rattle.std.proofs.lemmas.List.Sums.{sum_by-set}

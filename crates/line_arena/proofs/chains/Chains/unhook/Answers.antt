@@ -1,4 +1,5 @@
-use Rattle.std.proofs.Common.{◌≡◌, ◌-◌, ◌≤◌, ◌<◌, length, set, if◌then◌else◌, nat_lt, Some, None, refl, sym, ap, subst, ◌∙◌, arith}
+use Rattle.std.proofs.Common.{◌≡◌, ◌-◌, ◌≤◌, ◌<◌, length, set, if◌then◌else◌, nat_lt, Some, None}
+use Rattle.std.proofs.Common.{refl, sym, ap, subst, ◌∙◌, arith}
 use Rattle.std.proofs.Common.{length-set}
 use Rattle.std.proofs.lemmas.List.{get_or_read}
 use Rattle.line_arena.specs.declared.node.Head.{Head}
@@ -42,7 +43,8 @@ overflow_sub-head g c =
     let n = node k.prev k.next k.list (at s.block x).item in let here = c.position-links.ensures in
     let on : k.list < length s.heads.items = rw (ap (λ o. (or_blank o).list) here) at c.requires.on in
     let is = get_or_read s.heads.items k.list c.index_mut-head.result.now on c.index_mut-head.ensures.value no_head in
-    let count = ap (λ (h : Head). h.count) c.set_prev.ensures.head ∙ ap (λ (h : Head). h.count) c.set_next.ensures.head in
+    let count =
+    ap (λ (h : Head). h.count) c.set_prev.ensures.head ∙ ap (λ (h : Head). h.count) c.set_next.ensures.head in
     subst (λ m. 1 ≤ m) (sym count) (subst (λ h. 1 ≤ h.count) (sym is)
     (some s.block s.capacity s.heads.items t x n here on))
 
@@ -65,7 +67,8 @@ returns g c =
     let took = set s.block x None in let long1 : length took ≡ cap = length-set s.block x None ∙ t.cells in
     let next1 = edit cap (with_next k.next) took k.prev in
     let long2 : length next1 ≡ cap = length-edit cap (with_next k.next) took k.prev ∙ long1 in
-    let written = c.set_prev.ensures.block ∙ ap (λ cs. edit cap (with_prev k.prev) cs k.next) c.set_next.ensures.block in
+    let written =
+    c.set_prev.ensures.block ∙ ap (λ cs. edit cap (with_prev k.prev) cs k.next) c.set_next.ensures.block in
     let cells = ap (λ cs. set cs x None) written ∙ edit_emptied cap (with_prev k.prev) next k.next x
     ∙ ap (λ cs. edit cap (with_prev k.prev) cs k.next) (edit_emptied cap (with_next k.next) s.block k.prev x) in
     let made = detach_made s.block cap hs t x n here on h q (set c.set_prev.new.block x None) is head cells in

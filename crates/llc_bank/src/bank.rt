@@ -284,6 +284,7 @@ impl Bank {
     /// Evicts a line. A Shared line raises the memory time to the end of its lease; a clean one is gone then, and the
     /// bank sends a dirty one to DRAM. The bank asks the owner of an Exclusive line to return it, and the line stays.
     /// NotHere exactly when the bank does not have the line; Busy exactly when it is being loaded, recalled or stored.
+    #[inline(always)]
     pub fn evict(&mut self, line: LineNo) -> Result<Evict, EvictError>
         ensures { (result, self.new) ≡ evict self.old line }
     {

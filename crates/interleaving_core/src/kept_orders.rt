@@ -26,6 +26,15 @@ fn forget_in_cores(cores: &mut [Core])
     }
 }
 
+// No core keeps them so, and their memory stays.
+fn pause_in_cores(cores: &mut [Core])
+    ensures { cores.new ≡ cores.old }
+{
+    for at in 0..cores.len() {
+        cores[at].pause_order();
+    }
+}
+
 // All banks keep the lines that nothing is under way for in order.
 fn keep_in_banks(banks: &mut [Bank]) -> Result<(), AllocError>
     ensures { banks.new ≡ banks.old }
@@ -45,6 +54,15 @@ fn forget_in_banks(banks: &mut [Bank])
     }
 }
 
+// No bank keeps them so, and their memory stays.
+fn pause_in_banks(banks: &mut [Bank])
+    ensures { banks.new ≡ banks.old }
+{
+    for at in 0..banks.len() {
+        banks[at].pause_order();
+    }
+}
+
 impl<H: History> MachineState<H> {
     // All parts keep their lines in rising order. Where the memory is refused, those that were asked before do.
     pub(crate) fn keep_order(&mut self) -> Result<(), AllocError>
@@ -52,6 +70,14 @@ impl<H: History> MachineState<H> {
     {
         keep_in_cores(&mut self.cores)?;
         keep_in_banks(&mut self.banks)
+    }
+
+    // No part keeps them so, and the memory for that stays.
+    pub(crate) fn pause_order(&mut self)
+        ensures { self.new ≡ self.old }
+    {
+        pause_in_cores(&mut self.cores);
+        pause_in_banks(&mut self.banks);
     }
 
     // No part keeps them so.

@@ -443,10 +443,19 @@ impl<H: History> System<H> {
         Ok(())
     }
 
-    /// Whether lines are kept in rising order: `keep_order` answered Ok, and neither `forget_order` nor `reopen` was
-    /// called after it. No contract sees that, since no other answer depends on it.
+    /// Whether lines are kept in rising order: `keep_order` answered Ok, and none of `pause_order`, `forget_order`
+    /// and `reopen` was called after it. No contract sees that, since no other answer depends on it.
     pub fn keeps_order(&self) -> bool {
         self.has_order
+    }
+
+    /// The cores and banks stop keeping their lines in rising order. The memory for that stays, for the next
+    /// `keep_order`.
+    pub fn pause_order(&mut self)
+        ensures { self.new ≡ self.old }
+    {
+        self.state.pause_order();
+        self.has_order = false;
     }
 
     /// The cores and banks stop keeping their lines in rising order, and free the memory for that.

@@ -14,12 +14,12 @@ use programs::End;
 use programs::program::Program;
 use std::alloc::Global;
 
-// After a run the machine keeps its lines in rising order exactly if it did before.
+// After a run the machine keeps its lines in rising order exactly if it did before. The memory for that stays.
 pub(crate) fn order_as_before<K: History>(system: &mut System<K>, had_order: bool)
     ensures { system.new ≡ system.old }
 {
     if !had_order {
-        system.forget_order();
+        system.pause_order();
     }
 }
 

@@ -88,7 +88,7 @@ pub(crate) fn start_threads<'a>(
     ensures { IfOk result (λ threads. threads.items ≡
         threads_from (test_of test.now) 0 (test_of test.now).threads) }
 {
-    let mut threads = Vec::new(alloc);
+    let mut threads = Vec::with_capacity(alloc, test.threads())?;
     for thread in 0..test.threads() {
         threads.push(test.start(thread as u8))?;
     }

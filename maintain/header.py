@@ -1,14 +1,16 @@
 #!/usr/bin/env python3
-"""Compares tardis.h with the static library, with examples/embed/history.rs and with the Python package, and its version
-with the other places that have one: maintain/header.py --check
+"""Compares tardis.h with the static library, examples/embed/history.rs and the Python package, and its version with the
+other places that have one: maintain/header.py --check | --self-test
 
 No proof sees how a caller declares what it hands over. Each structure must have the same fields in the same order, each
 as wide: a field that is narrower on one side may lose its high bits, and a proof takes it for any other number. Each
 export must be declared with the types that its definition has, a slice as a pointer and a length; none may be missing.
-`struct tardis_system` must be as large as the library's handle. The constants that stand for answers, refusals, messages
-and ends must be the numbers of the library's definitions, and their words those of the Python package.
+`struct tardis_system` must be as large as the library's handle. The constants for answers, refusals, messages and ends
+must be the numbers of the library's definitions, and their words those of the Python package.
 
 TARDIS_VERSION is the version. The library's call, the program's `--version` and the Python package repeat it.
+
+With --self-test, wrong texts are planted, one at a time, and each must be found.
 """
 import ctypes
 import re
@@ -24,7 +26,8 @@ NAMES = "options", "operation", "record", "told", "word", "found", "lack", *OF_M
 HIDDEN = {"history", "system"}  # what no call of the library takes; what only the library looks into
 NOT_IN_RUST = {"told", "lack", *OF_MACHINES}  # what history.rs does without
 NOT_IN_PYTHON = {"told", "word"}  # words go there as bytes
-PARTS, REFUSALS = "tardis_c/specs/SystemParts.antt", "machine_table/specs/RefusalNumbers.antt"
+HEADER, EXAMPLE = "crates/tardis_c/tardis.h", "examples/embed/history.rs"
+PARTS, REFUSALS = "crates/tardis_c/specs/SystemParts.antt", "crates/machine_table/specs/RefusalNumbers.antt"
 CONSTANTS = (("answer_kind", PARTS, "answer_of"), ("message_kind", PARTS, "said"), ("end", PARTS, "end_of"),
              ("refusal", REFUSALS, "number_of"))  # by enumeration: the definition that has its numbers
 OTHER_NAMES = {"NO_SUCH": "NOT_THERE", "NO_MEMORY": "MEMORY_REFUSED"}  # other constants of tardis.h have these names
@@ -32,6 +35,14 @@ WORDS = {"answer": structures.ANSWERS, "refusal": structures.REFUSALS, "message"
          "end": structures.ENDS}  # by the call of tardis.h that tells them
 WIDE = {"*mut u8": 8, "u64": 8, "void *": 8, "uint64_t": 8, "Global": 0}  # bytes; an allocator is none
 PLAIN = {"u32": "uint32_t", "u64": "uint64_t", "usize": "size_t", "u8": "uint8_t", "Handle": "struct tardis_system"}
+
+
+PLANTED = {}  # by file, a text of it and what stands there instead
+
+
+def text_of(place):
+    """The text of a file, with what is planted there."""
+    return (TOP / place).read_text(encoding="utf-8").replace(*PLANTED.get(place, ("", "")), 1)
 
 
 def fields(found):
@@ -147,7 +158,7 @@ def handle(header, sources):
 def constants(header):
     """Which enumerations have other constants than the definition of their numbers, or other words in Python."""
     for name, file, definition in CONSTANTS:
-        text = (TOP / "crates" / file).read_text(encoding="utf-8")
+        text = text_of(file)
         cases = re.findall(rf"^{definition} \(?(\w+).*?\)? = \D*(\d+)", text, re.M)
         snake = [(re.sub(r"(?<=[a-z])(?=[A-Z])", "_", case).upper(), number) for case, number in cases]
         wanted = [(f"TARDIS_{OTHER_NAMES.get(case, case) if name == 'refusal' else case}", number)
@@ -169,31 +180,92 @@ def versions(header):
     for place, looks in (("crates/tardis_c/src/version.rt", f"ensures {{ result ≡ {number} }}"),
                          ("crates/command_line/src/app.rt", f'.version("{text}")'),
                          ("python/tardis/version.py", f'VERSION = "{text}"')):
-        if looks not in (TOP / place).read_text(encoding="utf-8"):
+        if looks not in text_of(place):
             yield f"header.py: {place} lacks {looks}"
 
 
 def sources(*crates):
     """The sources of crates, as one text."""
-    return "".join(file.read_text(encoding="utf-8") for crate in crates
+    return "".join(text_of(file.relative_to(TOP).as_posix()) for crate in crates
                    for file in sorted((TOP / "crates" / crate / "src").glob("*.rt")))
 
 
-def main():
-    header = (TOP / "crates/tardis_c/tardis.h").read_text(encoding="utf-8")
+def faults():
+    """All that differs."""
+    header, example = text_of(HEADER), text_of(EXAMPLE)
     wanted, library = of_c(header), sources("tardis_c")
-    example = (TOP / "examples/embed/history.rs").read_text(encoding="utf-8")
-    faults = [f"header.py: {side} has another tardis_{name} than tardis.h: {has.get(name)}"
+    found = [f"header.py: {side} has another tardis_{name} than tardis.h: {has.get(name)}"
               for side, has, without in (("the library", of_rust(library), ()),
                                          ("history.rs", of_rust(example), NOT_IN_RUST),
                                          ("the Python package", of_python(), NOT_IN_PYTHON))
               for name in NAMES if not wanted.get(name) or has.get(name) != wanted[name] if name not in without]
     if set(wanted) != {*NAMES, *HIDDEN}:
-        faults.append(f"header.py: tardis.h declares {sorted(wanted)}")
-    sys.exit("\n".join([*faults, *calls(header, library), *handle(header, sources("held_machine")), *constants(header),
-                        *versions(header)]) or None)
+        found.append(f"header.py: tardis.h declares {sorted(wanted)}")
+    return [*found, *calls(header, library), *handle(header, sources("held_machine")), *constants(header),
+            *versions(header)]
 
 
-if sys.argv[1:2] in (["-h"], ["--help"]):
-    sys.exit(print(__doc__))
-main()
+STATES = "uint64_t states, uint32_t orders, uint32_t json,\n  "
+# Texts that are planted: where, in place of what, and what is said of it.
+PLANTS = (
+    (HEADER, "    uint64_t line_words; ", "    uint32_t line_words; ", "the library has another tardis_options"),
+    (HEADER, "    uint64_t line_words; ", "    uint32_t line_words; ", "the Python package has another tardis_options"),
+    (HEADER, "    uint64_t place;    /*", "    uint32_t place;    /*", "history.rs has another tardis_record"),
+    (HEADER, "    uint32_t core;    /*", "    uint64_t core;    /*", "the library has another tardis_operation"),
+    (HEADER, "    uint64_t wts; ", "", "the library has another tardis_message"),
+    (HEADER, "    uint64_t words[8]; ", "    uint64_t words[7]; ", "the library has another tardis_message"),
+    (HEADER, "    uint64_t refusal; ", "    uint64_t cause; ", "the library has another tardis_answer"),
+    (HEADER, "    uint64_t renewals; /* sent */\n    uint64_t upgrades;\n",
+     "    uint64_t upgrades;\n    uint64_t renewals; /* sent */\n", "the library has another tardis_totals"),
+    (HEADER, "struct tardis_lack {", "struct tardis_more {\n    uint64_t it;\n};\nstruct tardis_lack {",
+     "tardis.h declares ["),
+    (EXAMPLE, "pub place: u64", "pub place: u32", "history.rs has another tardis_record"),
+    ("crates/tardis_c/src/plain.rt", "pub time: u64", "pub time: u32", "the library has another tardis_record"),
+    (HEADER, STATES, STATES.replace("64", "32"), "tardis.h declares tardis_c_ends as"),
+    (HEADER, STATES, STATES.replace("64", "32"), "the Python package declares tardis_c_ends as"),
+    (HEADER, "uint32_t tardis_c_version(void);", "uint64_t tardis_c_version(void);", "declares tardis_c_version as"),
+    (HEADER, "void tardis_c_system_close(", "uint32_t tardis_c_system_close(", "declares tardis_c_system_close as"),
+    (HEADER, "tardis_c_word_fault(const struct", "tardis_c_word_fault(struct", "declares tardis_c_word_fault as"),
+    (HEADER, "tardis_c_system_attempt(struct tardis_system *system, uint32_t core, struct",
+     "tardis_c_system_attempt(struct tardis_system *system, struct", "declares tardis_c_system_attempt as"),
+    (HEADER, "uint32_t tardis_c_version(void);", "", "declares tardis_c_version as None"),
+    (HEADER, "uint32_t tardis_c_version(void);", "uint32_t tardis_c_version(void);\nuint32_t tardis_c_more(void);",
+     "declares tardis_c_more as"),
+    (HEADER, "uint32_t tardis_c_version(void);", "uint32_t tardis_c_version(void);\nuint8_t *tardis_c_more(void);",
+     "there are exports that it doesn't find"),
+    ("crates/tardis_c/src/version.rt", "-> u32", "-> u64", "declares tardis_c_version as"),
+    ("crates/tardis_c/src/version.rt", "pub extern", "extern", "there are exports that it doesn't find"),
+    (HEADER, "    uint64_t is_open;\n", "    uint64_t is_open;\n    uint64_t more;\n", "struct tardis_system has"),
+    ("crates/held_machine/src/handle.rt", "    is_open: u64,\n", "    is_open: u64,\n    more: u64,\n",
+     "struct tardis_system has"),
+    (HEADER, "TARDIS_HELD = 7", "TARDIS_HELD = 17", "enum tardis_answer_kind isn't answer_of"),
+    (HEADER, "TARDIS_DRAM_ST = 12", "TARDIS_DRAM_STORE = 12", "enum tardis_message_kind isn't said"),
+    (HEADER, ", TARDIS_DRAM = 2", "", "enum tardis_end isn't end_of"),
+    (HEADER, "TARDIS_PINNED = 5", "TARDIS_PINNED = 6", "enum tardis_refusal isn't number_of"),
+    (REFUSALS, "number_of Stopped = 9", "number_of Stopped = 10", "enum tardis_refusal isn't number_of"),
+    (HEADER, '"recalled"', '"recall"', "other words of tardis_answer_name"),
+    (HEADER, '"Pinned"', '"pinned"', "other words of tardis_refusal_name"),
+    (HEADER, '"DramStRep"', '"DramStRet"', "other words of tardis_message_name"),
+    (HEADER, '"core", "bank"', '"bank", "core"', "other words of tardis_end_name"),
+    (HEADER, "#define TARDIS_VERSION ", "#define TARDIS_VERSION 1", "app.rt lacks"),
+    ("crates/tardis_c/src/version.rt", "ensures { result ≡ ", "ensures { result ≡ 1", "version.rt lacks"),
+    ("crates/command_line/src/app.rt", '.version("', '.version("1', "app.rt lacks"),
+    ("python/tardis/version.py", 'VERSION = "', 'VERSION = "1', "version.py lacks"))
+
+
+def self_test():
+    """What is wrong with this script: nothing must be found, and each text that is planted."""
+    yield from faults()
+    for place, old, new, wanted in PLANTS:
+        if text_of(place).count(old) != 1:
+            yield f"header.py: {place} has {old!r} {text_of(place).count(old)} times"
+        PLANTED[place] = old, new
+        found = "\n".join(faults())
+        PLANTED.clear()
+        if wanted not in found:
+            yield f"header.py: {new!r} in {place}: {found or 'nothing is found'}, and not: {wanted}"
+
+
+if sys.argv[1:] in (["--check"], ["--self-test"]):
+    sys.exit("\n".join(self_test() if "--self-test" in sys.argv else faults()) or None)
+print(__doc__)

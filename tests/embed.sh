@@ -101,6 +101,7 @@ silent reports
 silent directory 0
 silent directory 0 completion
 silent tardis litmus "$top/examples/litmus/SB.litmus"
+silent tardis ends --orders "$top/examples/litmus/SB.litmus"
 silent tardis trace --records "$top/examples/traces/MIGRATORY.trace"
 
 # Reports without copies, and what is thrown, next to those of the second program.
@@ -186,6 +187,7 @@ else
 fi
 PARTS='litmus settings seeds traces seeded_traces verdicts complete opening trace_faults' "$top/tests/check.sh" \
     "$work/tardis" >"$work/said" || { cat "$work/said"; exit 1; }
+"$top/tests/ends.py" --lists "$work/tardis" >"$work/said" || { cat "$work/said"; exit 1; }
 EMBED_ARRAYS=1 PARTS='verdicts complete' "$top/tests/check.sh" "$work/tardis" >"$work/said" ||
     { cat "$work/said"; exit 1; }
 

@@ -1,5 +1,5 @@
 #!/usr/bin/env python3
-"""Tries the lists of all ends, and tools/ends.py: tests/ends.py [PROGRAM]
+"""Tries the lists of all ends, and tools/ends.py: tests/ends.py [[--lists] PROGRAM]
 
 Some texts were worked out by hand, and so was the least --states that they need. Each order of an end is made step by
 step: it must lead there and leave no thread an instruction. Of a test with few orders it must be the first of those
@@ -7,7 +7,8 @@ that lead there. `PROGRAM ends`, with --orders and without, must print what refe
 catalogue, of examples/outcomes, of all critical cycles of at most 8 edges and of 1,000 random tests, and refuse the
 same bounds. Under total store order a critical cycle is allowed exactly if it has a store before a load (PodWR).
 tools/ends.py must say of each end which runs meet it, as the second program makes them one by one. Without PROGRAM
-nothing is compared, and the second program makes the tool's runs. The last line is `N tried, M wrong`.
+nothing is compared, and the second program makes the tool's runs. With --lists only PROGRAM's lists are compared.
+The last line is `N tried, M wrong`.
 """
 import os
 import random
@@ -463,13 +464,15 @@ def of_tool(program):
     return tester
 
 
-def main(program=None):
+def main(*words):
+    is_lists, program = words[:1] == ("--lists",), words[-1] if words else None
     program = program and os.path.abspath(program)
     os.chdir(TOP)
-    tester = of_tool(program)
-    tester.program = str(TOP / "reference/sequential.py")
-    by_hand(tester)
-    total_store_order(tester)
+    tester = Tester(program) if is_lists else of_tool(program)
+    if not is_lists:
+        tester.program = str(TOP / "reference/sequential.py")
+        by_hand(tester)
+        total_store_order(tester)
     with ProcessPoolExecutor(cpu_count()) as pool:
         for tried, wrong in pool.map(compared, ((program, *case) for case in texts()), chunksize=8):
             tester.tried += tried
@@ -479,4 +482,4 @@ def main(program=None):
 
 
 if __name__ == "__main__":
-    sys.exit(main(*sys.argv[1:]) if len(sys.argv) <= 2 else __doc__)
+    sys.exit(main(*sys.argv[1:]) if len(sys.argv) - (sys.argv[1:2] == ["--lists"]) <= 2 else __doc__)

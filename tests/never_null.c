@@ -22,6 +22,10 @@
 NEVER_NULL(tardis_c_litmus,
            (const uint8_t *text, size_t a, const struct tardis_options *options, uint8_t *out, size_t size, size_t *n),
            (text, a, options, out, size, n), text, options, out, n)
+NEVER_NULL(tardis_c_ends,
+           (const uint8_t *text, size_t a, uint64_t states, uint32_t orders, uint32_t json, uint8_t *out, size_t size,
+            size_t *n),
+           (text, a, states, orders, json, out, size, n), text, out, n)
 NEVER_NULL(tardis_c_trace,
            (const uint8_t *text, size_t a, const struct tardis_options *options, uint8_t *out, size_t size, size_t *n),
            (text, a, options, out, size, n), text, options, out, n)

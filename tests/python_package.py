@@ -21,6 +21,8 @@ import signal
 import subprocess
 import sys
 import tempfile
+import threading
+import time
 import warnings
 from concurrent.futures import ThreadPoolExecutor
 from itertools import islice
@@ -429,6 +431,48 @@ def at_once():
                 fail(f"machines at once: core {core}")
 
 
+def locks():
+    """While a report is made, other threads run; while a machine is called, none does."""
+    def is_met(call):
+        """Whether another thread runs in the middle of a call, which takes a while."""
+        times, is_over = [], threading.Event()
+
+        def note():
+            while not is_over.wait(0.001):
+                times.append(time.perf_counter())
+
+        thread = threading.Thread(target=note)
+        thread.start()
+        begun = time.perf_counter()
+        call()
+        third = (time.perf_counter() - begun) / 3
+        is_over.set()
+        thread.join()
+        return any(begun + third < at < begun + 2 * third for at in times)
+
+    opening = bytearray(b"".join((8 * number).to_bytes(8, "little") * 2 for number in range(400_000)))
+    if not is_met(lambda: tardis.litmus(STORE_BUFFERING.read_text(), runs=60_000)):
+        fail("a report keeps the interpreter's lock")
+    if is_met(lambda: tardis.system.System(2, Options(), opening)):
+        fail("a machine's call gives the interpreter's lock away")
+
+
+def long():
+    """A report that doesn't fit where it is put first is made once more, with room for all of it."""
+    room, tardis.library.room = tardis.library.room, lambda text: 10
+    report = tardis.litmus(STORE_BUFFERING.read_text()).text
+    tardis.library.room = room
+    if report != STORE_BUFFERING.with_suffix(".report").read_text():
+        fail(f"a report that is put twice: {report}")
+
+
+# A load by hand, and a store to another line, which goes back to the bank and to DRAM. Where no word has opened with
+# another value than 0, DRAM takes its first memory then, in the delivery of m9.
+STORED = ("issue 1 R 0x8", "attempt 1", *(f"deliver m{number}" for number in (0, 1, 2, 0, 3)), "attempt 1",
+          "issue 1 W 0x10 6", "attempt 1", *(f"deliver m{number}" for number in (4, 5, 6, 4, 7)), "attempt 1",
+          "evict core 1 0x10", "deliver m8", "evict bank 0 0x10", "deliver m9", "deliver m10")
+
+
 def refused_memory():
     """A machine over a library that counts the blocks that it holds, and refuses one growth (tests/refusing.c)."""
     library = tardis.library.loaded()
@@ -445,32 +489,41 @@ def refused_memory():
                 return came, times
         return fail("memory is refused again")
 
-    def loaded():
-        """A load by hand; how often memory was refused."""
-        opened, often = refused(lambda: tardis.Machine(memory={8: 5}))
-        events = ("issue 1 R 0x8", "attempt 1", *(f"deliver m{number}" for number in (0, 1, 2, 0, 3)), "attempt 1")
-        for event in events:
+    met = set()  # the events to which memory was refused
+
+    def made(opening):
+        """Makes these events over an opening memory; how often memory was refused."""
+        opened, often = refused(lambda: tardis.Machine(memory=opening))
+        answers = []
+        for event in STORED:
             came, times = refused(lambda: opened.run(event)[0])
+            answers.append(came)
+            met.update([event] * times)
             often += times
-        if came.record != tardis.Record(1, 0, "R", 8, None, 5, 0, 0):
-            fail(f"a load, where memory was refused: {came}")
-        for look, wanted in ((lambda: opened.copies(1), [8]), (lambda: opened.entries(0), [8]), (opened.check, "legal")):
+        wanted = [tardis.Record(1, 0, "R", 8, None, opening.get(8, 0), 0, 0),
+                  tardis.Record(1, 1, "W", 16, 6, None, 1, 1)]
+        if [came.record for came in answers if came.record] != wanted or \
+                [came.name for came in answers[-4:]] != ["delivered", "evicted", "delivered", "delivered"]:
+            fail(f"events, where memory was refused: {answers}")
+        for look, wanted in ((lambda: opened.copies(1), [8]), (lambda: opened.entries(0), [8]), (opened.check, "legal"),
+                             (lambda: opened.value(16), 6), (opened.in_flight, [])):
             came, times = refused(look)
             often += times
             if came != wanted:
                 fail(f"a look-up, where memory was refused: {came}")
         return often
 
-    at.value = growths.value = 0
-    loaded()
-    most, before = growths.value, held.value
-    for at.value in range(1, most + 1):
-        growths.value = 0  # a list that can't grow ahead grows by as much as it needs, once more
-        if not loaded() and growths.value != most + 1 or held.value != before:
-            fail(f"growth {at.value} of {most} isn't met, or {held.value} blocks are held, not {before}")
+    for opening in ({8: 5}, {}):
+        at.value = growths.value = 0
+        made(opening)
+        most = growths.value
+        for at.value in range(1, most + 1):
+            growths.value = 0  # a list that can't grow ahead grows by as much as it needs, once more
+            if not made(opening) and growths.value != most + 1 or held.value:
+                fail(f"growth {at.value} of {most} isn't met, or {held.value} blocks are held")
     at.value = 0
-    if most < 10 or before:
-        fail(f"{most} growths, and {before} blocks held")
+    if most < 30 or "deliver m9" not in met:
+        fail(f"{most} growths, and memory refused to {met}")
     opened = tardis.Machine()
     if held.value == 0:
         fail("a machine holds nothing")
@@ -753,13 +806,6 @@ def ends(is_proved):
         fail(f"a seventh state: {many}")
     refuses(tardis.BadConfiguration, lambda: tardis.ends(text, states=0), "no state")
     refuses(tardis.BadText, lambda: tardis.ends("RISCV\n"), "no litmus test")
-    program = os.environ.get("TARDIS")
-    tardis.found.program.cache_clear()
-    os.environ["TARDIS"] = shutil.which("true")
-    refuses(tardis.TardisError, lambda: tardis.ends(text), "a program of another version")
-    del os.environ["TARDIS"]
-    if program is not None:
-        os.environ["TARDIS"] = program
 
 
 CALLER = """
@@ -851,29 +897,22 @@ def ranges():
 
 
 def found_there():
-    """The program and the player: the checkout's, else those on the path; none without them."""
+    """The player: the checkout's, else the one on the path; none without them."""
     kept, top = dict(os.environ), tardis.found.TOP
     with tempfile.TemporaryDirectory() as folder:
         tardis.found.TOP = Path(folder)
-        os.environ.pop("TARDIS", None)
         os.environ.pop("TARDIS_PLAYER", None)
         os.environ["PATH"] = f"{folder}/path"
-        os.makedirs(f"{folder}/path")
-        for place in ("", "path/", "crates/"):
-            for name, find in (("tardis", tardis.found.program), ("play_events", tardis.found.player)):
-                installed = {"play_events": "tardis-play-events"}.get(name, name)
-                path = Path(folder, f"path/{installed}" if place == "path/" else f"crates/{name}/out/{name}")
-                if place:
-                    path.parent.mkdir(parents=True, exist_ok=True)
-                    path.write_text(f"#!/bin/sh\necho tardis {tardis.__version__} >&2\n")
-                    path.chmod(0o755)
-                tardis.found.program.cache_clear()
-                if find() != (str(path) if place else None):
-                    fail(f"{name} in {place or 'no place'}: {find()}")
+        for place in (None, "path/tardis-play-events", "crates/play_events/out/play_events"):
+            path = place and Path(folder, place)
+            if path:
+                path.parent.mkdir(parents=True)
+                path.touch(0o755)
+            if tardis.found.player() != (path and str(path)):
+                fail(f"the player in {place}: {tardis.found.player()}")
     tardis.found.TOP = top
     os.environ.clear()
     os.environ.update(kept)
-    tardis.found.program.cache_clear()
 
 
 def packaged():
@@ -922,6 +961,8 @@ def main(words):
         another_version()
         told = machines(True)
         at_once()
+        locks()
+        long()
         warnings.simplefilter("ignore")
         driven()
         with without_library():
@@ -934,7 +975,7 @@ def main(words):
     warnings.simplefilter("ignore")
     ranges()
     found_there()
-    os.environ["TARDIS_LIBRARY"] = os.environ["TARDIS"] = ""
+    os.environ["TARDIS_LIBRARY"] = ""
     for command, named in ((words[:1], words[0]), ([sys.executable, str(TOP / "reference/play.py")], "")):
         os.environ["TARDIS_PLAYER"] = named
         dialog(command)

@@ -64,6 +64,28 @@ void parts() {
     expect(tardis::litmus("").states().begin() == tardis::States("").end(), "the states of an error");
 }
 
+// The list of all ends, by hand: 1, 2, 3, 4 and 3 states by how many instructions are done.
+void lists() {
+    const std::string text = "RISCV SB\n{ 0:x5=1; 0:x6=x; 0:x8=y; 1:x5=1; 1:x6=y; 1:x8=x; }\n P0 | P1 ;\n"
+                             " sw x5,0(x6) | sw x5,0(x6) ;\n lw x7,0(x8) | lw x7,0(x8) ;\n"
+                             "exists (0:x7=1 /\\ 1:x7=0)\n";
+    const tardis::List listed = tardis::ends(text, true);
+    const tardis::Ends ends = tardis::ends(text).ends(); // the list is gone
+    expect(listed.number == TARDIS_DONE && listed.is_report(), "a list");
+    std::string told;
+    for (const tardis::End &end : listed.ends())
+        told += std::string(end.holds ? "*" : "-") + std::to_string(*end.value("0:x7")) +
+                std::to_string(*end.value("1:x7")) + ' ' + std::string(end.order) + '\n';
+    expect(told == "-01 P0:1 P0:2 P1:1 P1:2\n*10 P1:1 P1:2 P0:1 P0:2\n-11 P0:1 P1:1 P0:2 P1:2\n", "its ends");
+    expect(std::distance(ends.begin(), ends.end()) == 3 && ends.begin()->values == "0:x7=0 1:x7=1", "ends alone");
+    expect(ends.begin()->order.empty() && !ends.begin()->value("0:x"), "no order, and no such name");
+    const tardis::List few = tardis::ends(text, false, 6);
+    expect(few.number == TARDIS_TOO_MANY_STATES && !few.is_report() && few.ends().begin() == ends.end(), "six states");
+    expect(few.text == "tardis: more than 6 states; 9 are enough to go on\n", "why there is no list");
+    expect(tardis::ends(text, false, 7, true).text.rfind("{\"version\":1,\"command\":\"ends\",", 0) == 0, "an object");
+    expect(tardis::ends("").number == TARDIS_BAD_TEST, "the ends of no test");
+}
+
 // Histories over arrays of the caller's.
 void views() {
     const std::vector<tardis_operation> operations{{0, TARDIS_LOAD, 8, 0}, {1, TARDIS_STORE, 8, 3}};
@@ -93,8 +115,9 @@ void views() {
 } // namespace
 
 int main() {
-    expect(tardis::version() == "0.4.0", "the version");
+    expect(tardis::version() == "0.4.1", "the version");
     parts();
+    lists();
     views();
     calls = 0;
     // A value and times of 20 digits, with which a record is as long as it can be next to its operation.

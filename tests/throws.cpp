@@ -52,6 +52,10 @@ void reports() {
         });
     });
     throws(TARDIS_NULL, "tardis: a pointer is null", [] { tardis::trace(std::string_view(nullptr, 3)); });
+    const char *const test = "RISCV ONE\n{ 0:x6=x; }\n P0 ;\n lw x5,0(x6) ;\nexists (x=1)\n";
+    throws(TARDIS_TOO_MANY_STATES, "tardis: more than 1 states; 2 are enough to go on",
+           [&] { tardis::ends(test, false, 1); });
+    expect(tardis::ends(test, false, 2).ends().begin()->values == "x=0", "a list is no error");
 }
 
 void histories() {

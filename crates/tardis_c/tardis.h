@@ -10,9 +10,9 @@
 
    Where a text goes out, *length says how long it is. It stands at the front of the buffer if all of it fits; otherwise
    the buffer stays as it is. It is a report, or on TARDIS_NO_MEMORY, TARDIS_BAD_TEST, TARDIS_BAD_LINE,
-   TARDIS_BAD_MACHINE and TARDIS_BAD_OPENING the line that the program writes to standard error. TARDIS_SHORT_BUFFER is
-   answered for reports alone: a line that doesn't fit keeps its number. So on those five, read the buffer only if
-   *length is at most its size. */
+   TARDIS_BAD_MACHINE, TARDIS_BAD_OPENING and TARDIS_TOO_MANY_STATES the line that the program writes to standard error.
+   TARDIS_SHORT_BUFFER is answered for reports alone: a line that doesn't fit keeps its number. So on those six, read
+   the buffer only if *length is at most its size. */
 #ifndef TARDIS_H
 #define TARDIS_H
 
@@ -24,8 +24,8 @@
 extern "C" {
 #endif
 
-/* The version: 10000 for each major version, 100 for each minor one, 1 for each patch. So 400 is 0.4.0. */
-#define TARDIS_VERSION 400
+/* The version: 10000 for each major version, 100 for each minor one, 1 for each patch. So 401 is 0.4.1. */
+#define TARDIS_VERSION 401
 
 enum tardis_number {
     TARDIS_DONE = 0,         /* every run ended all done; the records are legal */
@@ -34,6 +34,7 @@ enum tardis_number {
     TARDIS_BAD_LINE = 5,     /* the text is no trace, or its records are none */
     TARDIS_BAD_MACHINE = 6,  /* a value of the machine's configuration is out of its range */
     TARDIS_NOT_DONE = 7,     /* some run ended otherwise; the records aren't legal */
+    TARDIS_TOO_MANY_STATES = 7, /* of tardis_list_ends alone: it would keep more states at once than it may */
     TARDIS_SHORT_BUFFER = 8, /* the report, whatever it says, doesn't fit into the buffer */
     TARDIS_NULL = 9,         /* a pointer is null: nothing was done, and nothing is written */
     TARDIS_BAD_OPERATION = 10, /* an operation of an array has a fault */
@@ -70,6 +71,9 @@ struct tardis_options {
     uint64_t every;         /* any number: the counts have a row each time that so many more operations are completed,
                                and none for 0; of no effect without counts */
 };
+
+/* How many states a list of ends may keep at once if the program isn't told otherwise. */
+#define TARDIS_USUAL_STATES 4194304
 
 enum tardis_kind { TARDIS_LOAD = 0, TARDIS_STORE = 1, TARDIS_SWAP = 2 };
 
@@ -253,6 +257,8 @@ uint32_t tardis_c_version(void);
 void tardis_c_defaults(struct tardis_options *options);
 uint32_t tardis_c_litmus(const uint8_t *text, size_t text_length, const struct tardis_options *options,
                          uint8_t *buffer, size_t size, size_t *length);
+uint32_t tardis_c_ends(const uint8_t *text, size_t text_length, uint64_t states, uint32_t orders, uint32_t json,
+                       uint8_t *buffer, size_t size, size_t *length);
 uint32_t tardis_c_trace(const uint8_t *text, size_t text_length, const struct tardis_options *options,
                         uint8_t *buffer, size_t size, size_t *length);
 uint32_t tardis_c_check(const uint8_t *trace, size_t trace_length, const uint8_t *records, size_t records_length,
@@ -324,6 +330,18 @@ static inline int tardis_run_litmus(const char *text, size_t text_length, const 
     if (tardis_is_null(text, text_length) || !options || tardis_is_null(buffer, size) || !length) return TARDIS_NULL;
     *length = 0;
     return (int)tardis_c_litmus(tardis_text(text), text_length, options, tardis_buffer(buffer), size, length);
+}
+
+/* Lists every end that a litmus test has, in any run, and no other; puts the list into the buffer. At most `states`
+   states are kept at once, of any number: TARDIS_USUAL_STATES as the program has it. If they are too few, the line says
+   how many are enough to go on. Where `orders` isn't 0, each end has an order of the threads' memory operations that
+   leads there. Where `json` isn't 0, the list is one JSON object, and not lines. */
+static inline int tardis_list_ends(const char *text, size_t text_length, uint64_t states, uint32_t orders,
+                                   uint32_t json, char *buffer, size_t size, size_t *length) {
+    if (tardis_is_null(text, text_length) || tardis_is_null(buffer, size) || !length) return TARDIS_NULL;
+    *length = 0;
+    return (int)tardis_c_ends(tardis_text(text), text_length, states, orders, json, tardis_buffer(buffer), size,
+                              length);
 }
 
 /* Runs a trace, and puts the report, with counts behind it if they are asked for, or the records, into the buffer. */

@@ -45,7 +45,7 @@ class Error : public std::runtime_error {
 inline void fail(int, const std::string &) {}
 #endif
 
-// The library's version, as 0.4.0.
+// The library's version, as 0.4.1.
 inline std::string version() {
     const uint32_t number = tardis_version();
     return std::to_string(number / 10000) + '.' + std::to_string(number / 100 % 100) + '.' +
@@ -81,6 +81,19 @@ template <class Item> class View {
     size_t count = 0;
 };
 
+// The value of a name, as 0:x7, among words as `0:x7=1 1:x7=0`; none if none of them has that name.
+inline std::optional<uint64_t> value_in(std::string_view values, std::string_view name) {
+    for (size_t at = 0, end; at < values.size(); at = end + 1) {
+        end = std::min(values.find(' ', at), values.size());
+        const std::string_view word = values.substr(at, end - at);
+        if (word.size() <= name.size() || word[name.size()] != '=' || word.substr(0, name.size()) != name) continue;
+        uint64_t number = 0;
+        std::from_chars(word.data() + name.size() + 1, word.data() + word.size(), number);
+        return number;
+    }
+    return std::nullopt;
+}
+
 // An end state of a litmus test: how many runs ended in it, and the value of each name in the condition, as
 // `0:x7=1 1:x7=0`, in the report's memory.
 struct State {
@@ -88,17 +101,17 @@ struct State {
     std::string_view values;
 
     // The value of a name, as 0:x7; none if the condition doesn't have that name.
-    std::optional<uint64_t> value(std::string_view name) const {
-        for (size_t at = 0, end; at < values.size(); at = end + 1) {
-            end = std::min(values.find(' ', at), values.size());
-            const std::string_view word = values.substr(at, end - at);
-            if (word.size() <= name.size() || word[name.size()] != '=' || word.substr(0, name.size()) != name) continue;
-            uint64_t number = 0;
-            std::from_chars(word.data() + name.size() + 1, word.data() + word.size(), number);
-            return number;
-        }
-        return std::nullopt;
-    }
+    std::optional<uint64_t> value(std::string_view name) const { return value_in(values, name); }
+};
+
+// An end that a litmus test has: whether it makes the condition's expression true, the value of each name in that, and
+// operations that lead there, as `P0:1 P1:1 P0:2 P1:2`, if these were asked for; all in the list's memory.
+struct End {
+    bool holds = false;
+    std::string_view values, order;
+
+    // The value of a name, as 0:x7; none if the condition doesn't have that name.
+    std::optional<uint64_t> value(std::string_view name) const { return value_in(values, name); }
 };
 
 // The record that a line of a trace's records has. A load has the value 0, and a store receives 0.
@@ -133,6 +146,18 @@ inline std::optional<State> state_of(std::string_view line) {
     if (read.ec != std::errc()) return std::nullopt;
     state.values = line.substr(std::min<size_t>(read.ptr - line.data() + 1, line.size()));
     return state;
+}
+
+// The end that a line of a list of ends has.
+inline std::optional<End> end_of(std::string_view line) {
+    if (line.size() < 2 || line[1] != ' ' || (line[0] != ' ' && line[0] != '*')) return std::nullopt;
+    End end;
+    end.holds = line[0] == '*';
+    line.remove_prefix(2);
+    const size_t size = std::min(line.find("   "), line.size());
+    end.values = line.substr(0, size);
+    end.order = line.substr(std::min(size + 3, line.size()));
+    return end;
 }
 
 // A text, with memory that all copies of it share: so a copy may outlive what it came from. A plain string_view of it
@@ -196,6 +221,7 @@ template <class Part, std::optional<Part> (*part_of)(std::string_view)> class Pa
 
 using Records = Parts<tardis_record, record_of>;
 using States = Parts<State, state_of>;
+using Ends = Parts<End, end_of>;
 
 // A number of tardis.h, and the report or the error's line.
 struct Report {
@@ -209,9 +235,20 @@ struct Report {
     States states() const { return States(is_report() ? text : Text()); }
 };
 
+// A number of tardis.h, and the list of all ends of a litmus test, or the error's line.
+struct List {
+    int number = TARDIS_NULL;
+    Text text;
+
+    bool is_report() const { return number == TARDIS_DONE; }
+    // The ends, if the list is in lines.
+    Ends ends() const { return Ends(is_report() ? text : Text()); }
+};
+
 // Calls once where the text fits into so many bytes, and again with the length that this reports where it doesn't.
 // A page of the buffer that nothing is written to takes no memory.
-inline Report told(size_t size, const std::function<int(char *buffer, size_t size, size_t *length)> &call) {
+template <class Told = Report>
+Told told(size_t size, const std::function<int(char *buffer, size_t size, size_t *length)> &call) {
     std::shared_ptr<char[]> buffer(new char[size]);
     size_t length = 0;
     int number = call(buffer.get(), size, &length);
@@ -220,7 +257,7 @@ inline Report told(size_t size, const std::function<int(char *buffer, size_t siz
         buffer.reset(new char[size]);
         number = call(buffer.get(), size, &length);
     }
-    const Report report{number, {{buffer.get(), length}, buffer}};
+    const Told report{number, {{buffer.get(), length}, buffer}};
     if (!report.is_report()) {
         const std::string line(report.text.substr(0, report.text.find('\n')));
         fail(number, line.empty() ? "tardis: a pointer is null" : line);
@@ -229,12 +266,21 @@ inline Report told(size_t size, const std::function<int(char *buffer, size_t siz
 }
 
 // Bytes for the report on a text. A record has at most 12 times the bytes of its operation in the trace, and a word of
-// a report fewer. Only a report with some ten thousand end states is longer, or one with many rows of counts.
+// a report fewer. Only a report with some ten thousand end states is longer, a list of as many ends, or one with many
+// rows of counts.
 inline size_t room(std::string_view text) { return (1 << 20) + 12 * text.size(); }
 
 inline Report litmus(std::string_view text, const tardis_options &options = defaults()) {
     return told(room(text), [&](char *buffer, size_t size, size_t *length) {
         return tardis_run_litmus(text.data(), text.size(), &options, buffer, size, length);
+    });
+}
+
+// Every end that a litmus test has, in any run; each with operations that lead there, if they are asked for. So many
+// states are kept at once at most; if they are too few, the number is TARDIS_TOO_MANY_STATES.
+inline List ends(std::string_view text, bool orders = false, uint64_t states = TARDIS_USUAL_STATES, bool json = false) {
+    return told<List>(room(text), [&](char *buffer, size_t size, size_t *length) {
+        return tardis_list_ends(text.data(), text.size(), states, orders, json, buffer, size, length);
     });
 }
 

@@ -83,7 +83,11 @@ static void types(void) {
                       struct tardis_lack *) = tardis_first_lack;
     uint32_t (*c_finds_lack)(const struct tardis_operation *, size_t, const struct tardis_record *, size_t,
                              struct tardis_lack *) = tardis_c_first_lack;
+    int (*lists_ends)(const char *, size_t, uint64_t, uint32_t, uint32_t, char *, size_t, size_t *) = tardis_list_ends;
+    uint32_t (*c_ends)(const uint8_t *, size_t, uint64_t, uint32_t, uint32_t, uint8_t *, size_t, size_t *) =
+        tardis_c_ends;
     (void)checks_history, (void)c_checks_history, (void)finds_lack, (void)c_finds_lack;
+    (void)lists_ends, (void)c_ends;
 }
 
 static const char TRACE[] = "0 W 0x0 1\n1 R 0x0\n";
@@ -103,16 +107,21 @@ static int litmus(const char *text, const struct tardis_options *options, size_t
     return tardis_run_litmus(text, strlen(text), options, buffer, size, &length);
 }
 
+static int ends(const char *text, uint64_t states, uint32_t orders, uint32_t json, size_t size) {
+    return tardis_list_ends(text, strlen(text), states, orders, json, buffer, size, &length);
+}
+
 static int trace(const char *text, const struct tardis_options *options, size_t size) {
     return tardis_run_trace(text, strlen(text), options, buffer, size, &length);
 }
 
 /* What a caller in another language, which has no header, writes for the header's names. */
 static void names(void) {
-    MUST(TARDIS_VERSION == 400 && tardis_version() == 400);
+    MUST(TARDIS_VERSION == 401 && tardis_version() == 401);
     MUST(TARDIS_DONE == 0 && TARDIS_NO_MEMORY == 3 && TARDIS_BAD_TEST == 4 && TARDIS_BAD_LINE == 5);
     MUST(TARDIS_BAD_MACHINE == 6 && TARDIS_NOT_DONE == 7 && TARDIS_SHORT_BUFFER == 8 && TARDIS_NULL == 9);
     MUST(TARDIS_BAD_OPERATION == 10 && TARDIS_BAD_RECORD == 11 && TARDIS_BAD_OPENING == 12);
+    MUST(TARDIS_TOO_MANY_STATES == 7 && TARDIS_USUAL_STATES == 4194304);
     MUST(TARDIS_LEGAL == 0 && TARDIS_MISSING_NUMBER == 1 && TARDIS_OUT_OF_PROGRAM_ORDER == 2);
     MUST(TARDIS_WRONG_VALUE == 3 && TARDIS_BAD_CORE == 4 && TARDIS_BAD_KIND == 5);
     MUST(TARDIS_BAD_ADDRESS == 6 && TARDIS_BAD_PLACE == 7);
@@ -226,6 +235,43 @@ static void runs(void) {
     MUST(trace("0 R 0x0\n", &options, 1000) == TARDIS_DONE && has("0 0 R 0x0 0 0 0\n"));
 }
 
+/* Store buffering: by hand, it has 1, 2, 3, 4 and 3 states by how many instructions are done, and three ends. */
+static const char BUFFERING[] = "RISCV SB\n{ 0:x5=1; 0:x6=x; 0:x8=y; 1:x5=1; 1:x6=y; 1:x8=x; }\n P0 | P1 ;\n"
+                                " sw x5,0(x6) | sw x5,0(x6) ;\n lw x7,0(x8) | lw x7,0(x8) ;\n"
+                                "exists (0:x7=1 /\\ 1:x7=0)\n";
+#define LISTED "test SB\nthreads 2\nstates 13\nends 3\n"
+#define ASKED "condition exists\nheld 1\nobservation SB Sometimes 1 2\n"
+#define ENDS LISTED "  0:x7=0 1:x7=1\n* 0:x7=1 1:x7=0\n  0:x7=1 1:x7=1\n" ASKED
+#define ORDERED LISTED "  0:x7=0 1:x7=1   P0:1 P0:2 P1:1 P1:2\n* 0:x7=1 1:x7=0   P1:1 P1:2 P0:1 P0:2\n" \
+                "  0:x7=1 1:x7=1   P0:1 P1:1 P0:2 P1:2\n" ASKED
+#define END(holds, first, second) "{\"holds\":" holds ",\"values\":{\"0:x7\":" first ",\"1:x7\":" second "}}"
+#define ENDS_OBJECT "{\"version\":1,\"command\":\"ends\",\"test\":\"SB\",\"threads\":2,\"states\":13,\"ends\":[" \
+                    END("false", "0", "1") "," END("true", "1", "0") "," END("false", "1", "1") "]," \
+                    "\"condition\":\"exists\",\"held\":1,\"observation\":\"Sometimes\"}\n"
+
+/* All ends of a test: with orders, as JSON, and with too few states, of which no text is a report. */
+static void lists(void) {
+    static const char few[] = "tardis: more than 6 states; 9 are enough to go on\n"; /* a layer of 3, of 2 threads */
+    MUST(ends(BUFFERING, TARDIS_USUAL_STATES, 0, 0, 1000) == TARDIS_DONE && has(ENDS));
+    MUST(ends(BUFFERING, 7, 0, 0, strlen(ENDS)) == TARDIS_DONE && has(ENDS));
+    MUST(ends(BUFFERING, UINT64_MAX, 65536, 0, 1000) == TARDIS_DONE && has(ORDERED)); /* any number sets a flag */
+    MUST(ends(BUFFERING, 4294967296, 0, 65536, 1000) == TARDIS_DONE && has(ENDS_OBJECT));
+    MUST(ends(BUFFERING, 7, 0, 0, strlen(ENDS) - 1) == TARDIS_SHORT_BUFFER && length == strlen(ENDS));
+    length = 0;
+    MUST(has(""));
+    MUST(ends(BUFFERING, 6, 0, 0, 1000) == TARDIS_TOO_MANY_STATES && has(few));
+    MUST(ends(BUFFERING, 6, 1, 1, strlen(few) - 1) == TARDIS_TOO_MANY_STATES && length == strlen(few));
+    length = 0;
+    MUST(has(""));
+    MUST(ends(BUFFERING, 0, 0, 0, 1000) == TARDIS_TOO_MANY_STATES);
+    MUST(has("tardis: more than 0 states; 3 are enough to go on\n"));
+    MUST(ends("RISCV ", 7, 0, 0, 1000) == TARDIS_BAD_TEST && has("tardis: line 1: 4 BadHeader\n"));
+    MUST(tardis_list_ends(NULL, 0, 7, 0, 0, NULL, 0, &length) == TARDIS_BAD_TEST && length == 28);
+    /* Only the bytes up to the length are the text. */
+    MUST(tardis_list_ends(BUFFERING, 6, 7, 0, 0, buffer, 1000, &length) == TARDIS_BAD_TEST);
+    MUST(has("tardis: line 1: 4 BadHeader\n"));
+}
+
 /* Reports with counts and rows of them, and as JSON: by the second program. */
 #define LOADED "cores 1\nissued 1\ncompleted 1\nend all-done\nloads 1\nstores 0\nswaps 0\nrenewals 0\nupgrades 0\n" \
                "flushes 0\nwrite-backs 0\nstale-hits 0\norder legal\nword 0x0 0\n"
@@ -290,6 +336,9 @@ static void nulls(void) {
     MUST(tardis_run_litmus(TEST, 1, NULL, buffer, 1000, &length) == TARDIS_NULL);
     MUST(tardis_run_litmus(TEST, 1, &options, NULL, 1, &length) == TARDIS_NULL);
     MUST(tardis_run_litmus(TEST, 1, &options, buffer, 1000, NULL) == TARDIS_NULL);
+    MUST(tardis_list_ends(NULL, 1, 7, 0, 0, buffer, 1000, &length) == TARDIS_NULL);
+    MUST(tardis_list_ends(TEST, 1, 7, 0, 0, NULL, 1, &length) == TARDIS_NULL);
+    MUST(tardis_list_ends(TEST, 1, 7, 0, 0, buffer, 1000, NULL) == TARDIS_NULL);
     MUST(tardis_run_trace(NULL, 1, &options, buffer, 1000, &length) == TARDIS_NULL);
     MUST(tardis_run_trace(TRACE, 1, NULL, buffer, 1000, &length) == TARDIS_NULL);
     MUST(tardis_run_trace(TRACE, 1, &options, NULL, 1, &length) == TARDIS_NULL);
@@ -723,6 +772,24 @@ static void refused_runs(void) {
     refused_at = 0;
 }
 
+/* Lists of ends, however they are laid out, are refused each growth of memory in turn. */
+static void refused_lists(void) {
+    static const char *const lists[3] = {ENDS, ORDERED, ENDS_OBJECT};
+    uint32_t way;
+    for (way = 0; way < 3; way++) {
+        int number, refused = 0;
+        for (refused_at = 1;; refused_at++) {
+            growths = 0;
+            number = ends(BUFFERING, 7, way == 1, way == 2, sizeof buffer);
+            if (growths < refused_at) break;
+            if (number == TARDIS_DONE) MUST(has(lists[way])); /* it can do without what was refused */
+            else MUST(++refused && number == TARDIS_NO_MEMORY && has("tardis: no memory\n"));
+        }
+        MUST(number == TARDIS_DONE && has(lists[way]) && refused > 6);
+    }
+    refused_at = 0;
+}
+
 /* Each growth of memory is refused in turn, until a call asks for no more. */
 static void refusals(void) {
     struct tardis_lack lack = {7, 7};
@@ -758,6 +825,7 @@ static void refusals(void) {
     MUST(refused_at > 2 && number == TARDIS_DONE);
     refused_histories();
     refused_runs();
+    refused_lists();
 }
 
 int main(void) {
@@ -767,6 +835,7 @@ int main(void) {
     checks();
     openings();
     runs();
+    lists();
     counts();
     nulls();
     arrays();

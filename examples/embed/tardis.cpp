@@ -1,5 +1,5 @@
-// The program's commands over the library, for a caller in C++: litmus, trace and check with their options, but for
-// --schedule threads and --workers. What it prints and its status are the program's, so that tests/check.sh can try
+// The program's commands over the library, for a caller in C++: litmus, ends, trace and check with their options, but
+// for --schedule threads and --workers. What it prints and its status are the program's, so that tests/check.sh can try
 // it. With EMBED_ARRAYS in the environment, `check` gives the library arrays in place of texts, where these are read
 // here.
 #include "tardis.hpp"
@@ -38,11 +38,13 @@ std::string text_of(const std::string &name) {
     return text;
 }
 
-// What a check is asked beside its two files.
+// What a check is asked beside its two files, or for a list of ends.
 struct Asked {
     bool complete = false;
     bool json = false;
     std::string opening;  // the text
+    bool orders = false;
+    uint64_t states = TARDIS_USUAL_STATES;
 };
 
 // The options and the other words of a command line.
@@ -57,9 +59,11 @@ std::vector<std::string> words_of(int count, char **words, tardis_options &optio
         else if (word == "--counts") options.counts = 1;
         else if (word == "--json") options.json = asked.json = true;
         else if (word == "--complete") asked.complete = true;
+        else if (word == "--orders") asked.orders = true;
         else if (word.rfind("--", 0) != 0) others.push_back(word);
         else if (++at == count) fail("bad command line", 3);
         else if (word == "--opening") asked.opening = text_of(words[at]);
+        else if (word == "--states") asked.states = std::strtoull(words[at], nullptr, 10);
         else if (word == "--schedule") options.by_seed = words[at] == std::string("seed");
         else if (number != NUMBERS.end()) options.*number->second = std::strtoull(words[at], nullptr, 10);
         else fail("bad command line", 3);
@@ -68,7 +72,7 @@ std::vector<std::string> words_of(int count, char **words, tardis_options &optio
 }
 
 // The text goes out; the status that the program would have.
-int told(const tardis::Report &report) {
+template <class Told> int told(const Told &report) {
     std::FILE *out = report.is_report() ? stdout : stderr;
     std::fwrite(report.text.data(), 1, report.text.size(), out);
     if (std::fflush(out) != 0) fail("write failed", 4);
@@ -132,6 +136,7 @@ int main(int count, char **words) {
     if (files.size() != (command == "check" ? 2 : 1)) fail("bad command line", 3);
     const std::string text = text_of(files[0]);
     if (command == "litmus") return told(tardis::litmus(text, options));
+    if (command == "ends") return told(tardis::ends(text, asked.orders, asked.states, asked.json));
     if (command == "trace") return told(tardis::trace(text, options));
     if (command != "check") fail("bad command line", 3);
     const std::string records = text_of(files[1]);

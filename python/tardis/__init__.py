@@ -1,8 +1,8 @@
 """The proved simulator of the Tardis coherence protocol, and its checker of histories, from Python (python/README.md).
 
-`litmus`, `trace`, `check` and `History` call the proved library, and `ends` the proved program. `Machine` is the
-library's machine, which you drive event by event; `Player` takes the lines of docs/EVENTS.md. Where one isn't built, the
-second program answers, with a warning: it isn't proved.
+`litmus`, `ends`, `trace`, `check` and `History` call the proved library. `Machine` is its machine, which you drive event
+by event; `Player` takes the lines of docs/EVENTS.md. Where the library or the player isn't built, the second program
+answers, with a warning: it isn't proved.
 """
 from tardis.errors import BadConfiguration, BadText, NoMemory, TardisError, TooManyStates
 from tardis.events import Answer, Message, Totals, answers_of

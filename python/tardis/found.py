@@ -1,15 +1,12 @@
-"""Where the proved library, program and player of events are, and where the second program is."""
+"""Where the proved library and player of events are, and where the second program is."""
 import ctypes
-import functools
 import os
 import shutil
-import subprocess
 import sys
 import warnings
 from pathlib import Path
 
 from tardis import version
-from tardis.errors import TardisError
 
 TOP = Path(__file__).resolve().parents[2]  # of a checkout
 
@@ -52,18 +49,6 @@ def player() -> str | None:
     if "TARDIS_PLAYER" in os.environ:
         return named_by("TARDIS_PLAYER")
     return first(TOP / "crates/play_events/out/play_events") or shutil.which("tardis-play-events")
-
-
-@functools.cache
-def program() -> str | None:
-    """The proved program: TARDIS, the checkout's, or the one on the path."""
-    named = "TARDIS" in os.environ
-    path = named_by("TARDIS") if named else first(TOP / "crates/tardis/out/tardis") or shutil.which("tardis")
-    if path:
-        told = subprocess.run([path, "--version"], capture_output=True, text=True).stderr.strip()
-        if told != f"tardis {version.VERSION}":
-            raise TardisError(f"{path} is of another version than {version.VERSION}")
-    return path
 
 
 def second(script: str, lacks: str) -> list[str]:

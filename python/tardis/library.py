@@ -4,10 +4,11 @@ import functools
 from typing import Any
 
 from tardis import found, structures, version
-from tardis.errors import BadConfiguration, BadText, NoMemory, TardisError
+from tardis.errors import BadConfiguration, BadText, NoMemory, TardisError, TooManyStates
 from tardis.options import MOST, Asked, Options
 
 DONE, NO_MEMORY, BAD_TEST, BAD_LINE, BAD_MACHINE, NOT_DONE, SHORT_BUFFER, BAD_OPENING = 0, 3, 4, 5, 6, 7, 8, 12
+TOO_MANY_STATES = 7  # of a list of ends alone
 ERRORS = {NO_MEMORY: NoMemory, BAD_TEST: BadText, BAD_LINE: BadText, BAD_MACHINE: BadConfiguration,
           BAD_OPENING: BadText}
 FIELDS = tuple(name for name, *_ in structures.Options._fields_)
@@ -73,6 +74,14 @@ def run(kind: str, text: bytes, options: Options, asked: Asked) -> tuple[bool, s
     call = getattr(loaded(), f"tardis_c_{kind}")
     number, report = told(call, room(text), text, len(text), options_of(options, asked))
     return number == DONE, report
+
+
+def ends(text: bytes, states: int, orders: bool, json: bool) -> str:
+    """The list of all ends of a litmus test: lines, or a JSON object."""
+    number, listed = told(loaded().tardis_c_ends, room(text), text, len(text), states, orders, json)
+    if number == TOO_MANY_STATES:
+        raise TooManyStates(listed.strip())
+    return listed
 
 
 def check(opening: bytes, trace: bytes, records: bytes, complete: bool, json: bool) -> str:

@@ -37,8 +37,8 @@ class End:
 
 @dataclass(frozen=True)
 class EndsReport:
-    """Every end that a litmus test has, in any run. `is_proved` says who listed them: the proved program, or the second
-    one."""
+    """Every end that a litmus test has, in any run. `is_proved` says who listed them: the proved library, or the second
+    program."""
 
     text: str = field(repr=False)
     is_proved: bool

@@ -17,9 +17,10 @@ def in_bytes(text: str | bytes) -> bytes:
     return text.encode() if isinstance(text, str) else text
 
 
-def printed(program: list[str], words: list[str], *texts: bytes) -> tuple[bool, str]:
-    """Whether all is done, and what a program prints of a command on these texts, whose files are named behind the
-    words."""
+def by_second(words: list[str], *texts: bytes) -> tuple[bool, str]:
+    """Whether all is done, and what the second program, which stands for the shared library, prints of a command on
+    these texts, whose files are named behind the words."""
+    program = found.second("oracle.py", "the shared library")
     with tempfile.TemporaryDirectory(prefix="tardis-") as folder:
         paths = [os.path.join(folder, str(number)) for number in range(len(texts))]
         for path, text in zip(paths, texts):
@@ -32,11 +33,6 @@ def printed(program: list[str], words: list[str], *texts: bytes) -> tuple[bool, 
     if told.startswith("tardis: more than "):
         raise TooManyStates(told)
     raise {1: NoMemory, 2: BadText, 3: BadConfiguration}.get(came.returncode, TardisError)(told)
-
-
-def by_second(words: list[str], *texts: bytes) -> tuple[bool, str]:
-    """Likewise, of the second program, which stands for the shared library."""
-    return printed(found.second("oracle.py", "the shared library"), words, *texts)
 
 
 def object_of(text: str) -> dict[str, Any]:
@@ -93,17 +89,19 @@ def ends(text: str | bytes, *, states: int = 4_194_304, orders: bool = False,
 
 def ends(text: str | bytes, *, states: int = 4_194_304, orders: bool = False,
          json: bool = False) -> EndsReport | dict[str, Any]:
-    """Lists every end that a litmus test has, in any run, by the proved program. `states` may be kept at once, from 1
-    to 4294967295. With `orders`, each end has an order of the memory operations that leads there. With `json`, the list
-    is the object that `--json` writes.
+    """Lists every end that a litmus test has, in any run. `states` may be kept at once, from 1 to 4294967295. With
+    `orders`, each end has an order of the memory operations that leads there. With `json`, the list is the object that
+    `--json` writes.
 
     Raises BadText, BadConfiguration, TooManyStates or NoMemory."""
     within("states", states, 1, 2 ** 32 - 1)
-    program = found.program()
-    command = [program] if program else found.second("oracle.py", "the program")
-    words = ["ends", "--states", str(states), *["--orders"] * orders, *["--json"] * json]
-    listed = printed(command, words, in_bytes(text))[1]
-    return object_of(listed) if json else ends_report(listed, program is not None)
+    is_proved = library.loaded() is not None
+    if is_proved:
+        listed = library.ends(in_bytes(text), states, orders, json)
+    else:
+        words = ["ends", "--states", str(states), *["--orders"] * orders, *["--json"] * json]
+        listed = by_second(words, in_bytes(text))[1]
+    return object_of(listed) if json else ends_report(listed, is_proved)
 
 
 @overload

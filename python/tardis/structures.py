@@ -102,6 +102,7 @@ CALLS: dict[str, tuple[Any, ...]] = {
     "version": (),
     "defaults": (pointer(Options),),
     "litmus": (*TEXT, pointer(Options), *PUT),
+    "ends": (*TEXT, U64, U32, U32, *PUT),
     "trace": (*TEXT, pointer(Options), *PUT),
     "check_opened": (*TEXT, *TEXT, *TEXT, U32, U32, *PUT),
     "check_history": (*ARRAY, *ARRAY, *ARRAY, pointer(Found)),

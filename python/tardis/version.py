@@ -1,6 +1,6 @@
 """The version, as `TARDIS_VERSION` of crates/tardis_c/tardis.h has it (maintain/header.py compares them)."""
 
-VERSION = "0.4.0"
+VERSION = "0.4.1"
 
 
 def number() -> int:

@@ -342,7 +342,7 @@ fn program<'a>(alloc: Global) -> Result<Command<'a>, AllocError>
 {
     let about = "A simulator of the Tardis coherence protocol that checks what it simulates";
     let named = Command::new(alloc, "tardis").about(about);
-    let numbered = named.version("0.4.0");
+    let numbered = named.version("0.4.1");
     Ok(numbered.subcommand_required(true))
 }
 

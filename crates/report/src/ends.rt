@@ -1,4 +1,4 @@
-//! From a source with a litmus text to a sink for the list of its ends.
+//! From a litmus text to the list of its ends: of a text in memory, or from a source to a sink.
 ghost use Rattle.std.specs.Prelude.{◌≡◌, ◌≢◌, ◌+◌, IfErr, IfOk, IsErrOf, true};
 ghost use Rattle.byte_streams.specs.Whole.{TakesAtMost};
 ghost use Rattle.report.specs.Answers.{FailuresAreCounted, IsCutOff, IsReported};
@@ -7,7 +7,7 @@ ghost use Rattle.report.specs.Ends.{HasNoEnds, IsEndsReport};
 
 use crate::every_text::every_text;
 use crate::litmus::test_in;
-use crate::outputs::{layout_of, put_out};
+use crate::outputs::{Report, layout_of, put_out};
 use crate::sources::read_text;
 use byte_streams::{Sink, Source};
 use run_options::EndsOptions;
@@ -46,16 +46,21 @@ pub fn run_ends<S: Source, K: Sink>(
     ensures nothing { IfErr result (λ e. e ≢ RunError.Write → sink.new ≡ sink.old) }
 {
     let bytes = read_text(alloc, source)?;
-    let text = list_of(alloc, &bytes, options)?;
-    put_out(sink, &text, Done { all_done: true })
+    let report = ends_report(alloc, &bytes, options)?;
+    let done = Done {
+        all_done: report.all_done,
+    };
+    put_out(sink, &report.text, done)
 }
 
-// The list of the ends of the litmus test that these bytes are.
-fn list_of(alloc: Global, bytes: &[u8], options: &EndsOptions) -> Result<Vec<u8>, RunError>
-    ensures list { IfOk result (λ text. IsEndsReport options.now bytes.now true text.items) }
-    ensures refused { IfErr result (HasNoEnds options.now bytes.now) }
+/// The list of the ends of the litmus test that a text is: those of the sequential machine, all of them and no other.
+/// Litmus takes precedence over TooManyStates.
+pub fn ends_report(alloc: Global, text: &[u8], options: &EndsOptions) -> Result<Report, RunError>
+    ensures report { IfOk result (λ report.
+        IsEndsReport options.now text.now report.all_done report.text.items) }
+    ensures refused { IfErr result (HasNoEnds options.now text.now) }
 {
-    let test = match test_in(alloc, bytes) {
+    let test = match test_in(alloc, text) {
         Ok(test) => test,
         Err(error) => return Err(error),
     };
@@ -69,7 +74,10 @@ fn list_of(alloc: Global, bytes: &[u8], options: &EndsOptions) -> Result<Vec<u8>
     };
     let layout = layout_of(options.json);
     match every_text(alloc, layout, &test, &every, options.orders) {
-        Ok(text) => Ok(text),
+        Ok(text) => Ok(Report {
+            text,
+            all_done: true,
+        }),
         Err(AllocError) => Err(RunError::NoMemory),
     }
 }

@@ -23,7 +23,7 @@ mod words;
 
 pub use byte_streams::{FromRead, Sink, Source, ToWrite};
 pub use checks::{check_history, run_check};
-pub use ends::run_ends;
+pub use ends::{ends_report, run_ends};
 pub use in_memory::{check_report, litmus_report, opened_report, trace_report};
 pub use litmus::run_litmus;
 pub use openings::opening_of;

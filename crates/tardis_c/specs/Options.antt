@@ -1,5 +1,6 @@
 -- What the options of C stand for.
 use Rattle.std.specs.Prelude.{ℕ, ◌==◌, Bool, Option, Some, None, if◌then◌else◌, nat_lt}
+use Rattle.run_options.specs.declared.options.EndsOptions.{EndsOptions}
 use Rattle.run_options.specs.declared.options.LitmusOptions.{LitmusOptions}
 use Rattle.run_options.specs.declared.options.RunOptions.{RunOptions}
 use Rattle.run_options.specs.declared.options.Schedule.TheVariants.{Round, FairRound, Seed}
@@ -37,6 +38,9 @@ every_of every = if every == 0 then None else Some every
 
 abbrev pub litmus_options : PlainOptions → LitmusOptions
 litmus_options plain = record { runs = plain.runs; json = is_set plain.json; run = run_options plain }
+
+abbrev pub ends_options : (states orders json : ℕ) → EndsOptions
+ends_options states orders json = record { most_states = states; orders = is_set orders; json = is_set json }
 
 abbrev pub trace_options : PlainOptions → TraceOptions
 trace_options plain = record {

@@ -2,9 +2,9 @@
 ghost use Rattle.std.specs.Prelude.{◌≡◌};
 ghost use Rattle.run_options.specs.declared.options.TheConstants.LitmusOptions.{DEFAULT as litmus_default};
 ghost use Rattle.run_options.specs.declared.options.TheConstants.TraceOptions.{DEFAULT as trace_default};
-ghost use Rattle.tardis_c.specs.Options.{every_of, litmus_options, run_options, trace_options};
+ghost use Rattle.tardis_c.specs.Options.{ends_options, every_of, litmus_options, run_options, trace_options};
 
-use run_options::{LitmusOptions, MachineOptions, RunOptions, Schedule, TraceOptions};
+use run_options::{EndsOptions, LitmusOptions, MachineOptions, RunOptions, Schedule, TraceOptions};
 
 /// The options of a run, as `tardis.h` has them. A flag is set if its number isn't 0.
 #[repr(C)]
@@ -103,6 +103,17 @@ pub(crate) fn litmus_options(plain: &PlainOptions) -> LitmusOptions
         runs: plain.runs,
         json: plain.json != 0,
         run: run_options(plain),
+    }
+}
+
+/// How the ends of a litmus test are listed.
+pub(crate) fn ends_options(states: u64, orders: u32, json: u32) -> EndsOptions
+    ensures { result ≡ ends_options states orders json }
+{
+    EndsOptions {
+        most_states: states,
+        orders: orders != 0,
+        json: json != 0,
     }
 }
 

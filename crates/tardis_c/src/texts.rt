@@ -1,7 +1,8 @@
-//! Runs of litmus tests and of traces, and checks of records, from texts to texts.
+//! Runs and ends of litmus tests, runs of traces, and checks of records, from texts to texts.
 ghost use Rattle.std.specs.Prelude.{Some, false};
 ghost use Rattle.std.specs.FinMap.{empty};
 ghost use Rattle.physiological_order.specs.Order.{flat};
+ghost use Rattle.report.specs.Ends.{HasNoEnds, IsEndsReport};
 ghost use Rattle.report.specs.Layouts.{layout_of};
 ghost use Rattle.report.specs.Litmus.{HasNoReportInMemory, IsLitmusReport};
 ghost use Rattle.report.specs.Openings.{HasNoOpenedReport, IsOpenedReport};
@@ -9,11 +10,11 @@ ghost use Rattle.report.specs.Reports.{HasNoTraceReport, IsTraceReport};
 ghost use Rattle.report.specs.Verdicts.{HasNoVerdict, IsCheckReport};
 ghost use Rattle.report_lines.specs.declared.layout.Layout.TheVariants.{Lines};
 ghost use Rattle.tardis_c.specs.Answers.{IsTold};
-ghost use Rattle.tardis_c.specs.Options.{is_set, litmus_options, trace_options};
+ghost use Rattle.tardis_c.specs.Options.{ends_options, is_set, litmus_options, trace_options};
 
 use crate::answers::tell;
-use crate::options::{PlainOptions, litmus_options, trace_options};
-use report::{check_report, layout_of, litmus_report, opened_report, trace_report};
+use crate::options::{PlainOptions, ends_options, litmus_options, trace_options};
+use report::{check_report, ends_report, layout_of, litmus_report, opened_report, trace_report};
 use std::alloc::Global;
 
 /// Runs the litmus test that a text is, and puts the report into the buffer.
@@ -30,6 +31,27 @@ pub extern "C" fn tardis_c_litmus(
         buffer.old buffer.new long.new result }
 {
     let came = litmus_report(alloc, text, &litmus_options(options));
+    tell(&came, buffer, long)
+}
+
+/// Lists all ends of the litmus test that a text is, and puts the list into the buffer: lines, or a JSON object where
+/// `json` isn't 0, and an order that leads there behind each end where `orders` isn't 0. At most `states` states are
+/// kept at once.
+#[unsafe(no_mangle)]
+pub extern "C" fn tardis_c_ends(
+    alloc: Global,
+    text: &[u8],
+    states: u64,
+    orders: u32,
+    json: u32,
+    buffer: &mut [u8],
+    long: &mut usize,
+) -> u32
+    ensures { IsTold (IsEndsReport (ends_options states orders json) text.now)
+        (HasNoEnds (ends_options states orders json) text.now)
+        buffer.old buffer.new long.new result }
+{
+    let came = ends_report(alloc, text, &ends_options(states, orders, json));
     tell(&came, buffer, long)
 }
 

@@ -9,9 +9,9 @@ returns-in_err-bytes-clause-refused g c =
     rw (p.1, p.2) (λ read write. unlisted (g.S.Source.remaining c.args.source.now) c.args.options.now _ _ _
     c.in_err-bytes.ensures.none read)
 
-pub returns-in_err-text-clause-refused : goal.returns-in_err-text-clause-refused
-returns-in_err-text-clause-refused g c =
-    let p = err_from_is_err_and c.from_residual-in_err-text.result c.from_residual-in_err-text.ensures.1 in
-    rw (p.1, p.2) (λ read write. of_read (λ b. HasNoEnds c.args.options.now b c.in_err-text.field-0.0)
+pub returns-in_err-report-clause-refused : goal.returns-in_err-report-clause-refused
+returns-in_err-report-clause-refused g c =
+    let p = err_from_is_err_and c.from_residual-in_err-report.result c.from_residual-in_err-report.ensures.1 in
+    rw (p.1, p.2) (λ read write. of_read (λ b. HasNoEnds c.args.options.now b c.in_err-report.field-0.0)
     (g.S.Source.remaining c.args.source.now) c.in_ok-bytes.bytes.items _ c.in_ok-bytes.ensures.all
-    c.deref.ensures.value c.in_err-text.ensures.refused)
+    c.deref.ensures.value c.in_err-report.ensures.refused)

@@ -4,17 +4,17 @@ use Rattle.litmus_reader.specs.TestViews.{test_of}
 use Rattle.report_lines.specs.declared.layout.Layout.{Layout}
 use Rattle.report.specs.EveryText.{every_text}
 use Rattle.report.proofs.Refused.{no_list}
-use Rattle.report.proofs.ends.list_of.Goals as goal
+use Rattle.report.proofs.ends.ends_report.Goals as goal
 
 pub returns-in-Err-clause-refused : goal.returns-in-Err-clause-refused
 returns-in-Err-clause-refused c =
-    no_list c.args.options.now c.args.bytes.now c.in-Err.error c.in-Err.ensures.refused
+    no_list c.args.options.now c.args.text.now c.in-Err.error c.in-Err.ensures.refused
 
 pub returns-in-Err-NoMemory-clause-refused : goal.returns-in-Err-NoMemory-clause-refused
-returns-in-Err-NoMemory-clause-refused c = some_of_test c.args.bytes.now _ c.in-Ok.ensures.found
+returns-in-Err-NoMemory-clause-refused c = some_of_test c.args.text.now _ c.in-Ok.ensures.found
 
-pub returns-in-Ok-every_text-clause-list : goal.returns-in-Ok-every_text-clause-list
-returns-in-Ok-every_text-clause-list c =
+pub returns-in-Ok-every_text-clause-report : goal.returns-in-Ok-every_text-clause-report
+returns-in-Ok-every_text-clause-report c =
     let listed = c.in-Ok-list_ends.ensures in
     record {
       test = test_of c.in-Ok.test;
@@ -36,4 +36,4 @@ returns-in-Ok-every_text-clause-list c =
     }
 
 pub returns-clause-refused : goal.returns-clause-refused
-returns-clause-refused c = some_of_test c.args.bytes.now _ c.in-Ok.ensures.found
+returns-clause-refused c = some_of_test c.args.text.now _ c.in-Ok.ensures.found

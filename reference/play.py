@@ -3,7 +3,7 @@
 
 A text is read from standard input if FILE is `-`, or if none is named. `--print FILE` writes the text with the answers
 that came. No allocation of the second program fails, so that `--again` changes nothing. `--live` answers each call on
-standard input before it reads the next one.
+standard input before it reads the next one, as the player of events does, or with `seats` behind it that of seats.
 """
 import sys
 from collections import Counter
@@ -16,6 +16,7 @@ from reference.seat_texts import SeatsOrNumbersPlayer  # noqa: E402
 from reference.texts import Unreadable, examples_of, is_answer  # noqa: E402
 
 
+LIVE = {"events": MachinePlayer, "seats": SeatsOrNumbersPlayer}
 KINDS = {"machine": MachinePlayer, "seats": SeatsOrNumbersPlayer, "numbers": SeatsOrNumbersPlayer}
 GOOD, WRONG, BAD_TEXT, FAILED = 0, 1, 3, 4
 
@@ -75,9 +76,9 @@ def tell(name, is_print):
     return worst
 
 
-def play_live():
+def play_live(kind="events"):
     """Answers each call on standard input when it is read."""
-    player = MachinePlayer()
+    player = LIVE[kind]()
     for line in sys.stdin:
         call = " ".join(line.split())
         if call:
@@ -92,8 +93,8 @@ def play_live():
 def main(words):
     if words[:1] in (["-h"], ["--help"]):
         return print(__doc__)
-    if words == ["--live"]:
-        return play_live()
+    if words[:1] == ["--live"] and set(words[1:]) <= {*LIVE} and len(words) <= 2:
+        return play_live(*words[1:])
     is_print = "--print" in words
     files = [word for word in words if word not in ("--print", "--again")]
     if any(word.startswith("--") for word in files) or is_print and len(files) != 1:

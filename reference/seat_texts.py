@@ -173,6 +173,7 @@ class SeatsOrNumbersPlayer(Player):
     """Plays examples that begin with `seats` or `numbers`; what was opened last is open."""
 
     CALLS = {**SeatPlayer.CALLS, **NumbersPlayer.CALLS}
+    opened = Player()
 
     def answer(self, name, of):
         if name in ("seats", "numbers"):

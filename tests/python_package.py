@@ -1,9 +1,8 @@
 #!/usr/bin/env python3
-"""Tries the players' `--live` (docs/EVENTS.md) and the Python package: tests/python_package.py EVENT_PLAYER
+"""Tries the Python package: tests/python_package.py EVENT_PLAYER
 
-Each call of the texts in crates/play_events/data is sent alone, and its answer read before the next one is sent, to the
-proved player and to the second program's. Then the package by the second program: answers by hand, faults, a network of
-one's own (examples/embed/latency.py), and litmus tests, traces and checks against the reports in examples/.
+By the second program: answers by hand, faults, a network of one's own (examples/embed/latency.py), and litmus tests,
+traces and checks against the reports in examples/. Likewise `Player`, by the proved player of events, too.
 
     tests/python_package.py --library    all of the package by the shared library that TARDIS_LIBRARY names, and machines
                                          that are drawn next to the second program's
@@ -25,14 +24,11 @@ import threading
 import time
 import warnings
 from concurrent.futures import ThreadPoolExecutor
-from itertools import islice
 from pathlib import Path
 
 TOP = Path(__file__).resolve().parent.parent
 sys.path[:0] = [str(TOP), str(TOP / "python")]
 import tardis  # noqa: E402
-from reference.machine_texts import MachinePlayer  # noqa: E402
-from reference.texts import examples_of, is_answer  # noqa: E402
 from tests import systems  # noqa: E402
 from tardis.options import Options  # noqa: E402
 
@@ -59,51 +55,6 @@ def options_of(trace):
 
 def fail(why):
     sys.exit(f"python_package.py: {why}")
-
-
-class Live:
-    """A player that answers each call at once."""
-
-    def __init__(self, command):
-        self.player = subprocess.Popen([*command, "--live"], stdin=subprocess.PIPE, stdout=subprocess.PIPE, text=True,
-                                       bufsize=1)
-
-    def say(self, call):
-        self.player.stdin.write(call + "\n")
-        return self.player.stdout.readline().rstrip("\n")
-
-    def end(self):
-        rest = self.player.communicate()[0]
-        return self.player.returncode, rest
-
-
-def dialog(command):
-    """Calls by hand: what can't be read gets its cause, a blank line nothing, and the player goes on."""
-    live = Live(command)
-    for call, wanted in (("flight", "no machine"), ("machine cores 2 lease 10", "opened"), ("issue 1 R 0x0", "issued"),
-                         ("attempt 1", "requested"), ("  flight  ", "m0"), ("deliver m0 1", "unread: a word too many"),
-                         ("fly", "unread: there is no such call"), ("deliver m0", "started"), ("\nflight", "m0 m1"),
-                         ("issue 1 R 0x0", "refused Busy"), ("issue 1 R 0x4", "unread: an address is a multiple of 8")):
-        came = live.say(call)
-        if came != wanted:
-            fail(f"{command[0]}: {call.strip()}: {came}, not {wanted}")
-    if live.end() != (0, ""):
-        fail(f"{command[0]}: the end of the input")
-
-
-def texts(command, most):
-    """The calls of the texts that have an answer, repeats made, at most `most` of each example; a player for each."""
-    tried = 0
-    for path in sorted((TOP / "crates/play_events/data").glob("*.events")):
-        for example in examples_of(path.read_text(), {"machine": MachinePlayer}):
-            live = Live(command)
-            for _, _, call, wanted in islice(example.lines(), most):
-                came = live.say(call)
-                if wanted is not None and not is_answer(wanted, came):
-                    fail(f"{command[0]}: {path.name}: {example.title}: {call}: {came}, not {wanted}")
-                tried += 1
-            live.end()
-    return tried
 
 
 class Index:
@@ -976,10 +927,8 @@ def main(words):
     ranges()
     found_there()
     os.environ["TARDIS_LIBRARY"] = ""
-    for command, named in ((words[:1], words[0]), ([sys.executable, str(TOP / "reference/play.py")], "")):
+    for named in (words[0], ""):
         os.environ["TARDIS_PLAYER"] = named
-        dialog(command)
-        print(f"python_package.py: {texts(command, 2000 if named else 30)} calls, one by one")
         player(bool(named))
     machines(False)
     opened_with()

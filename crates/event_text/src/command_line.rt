@@ -1,6 +1,8 @@
 //! The words of a player's command line.
 
 use std::alloc::{AllocError, Global};
+use std::rt::Env;
+use std::{env, io};
 
 /// What the words ask for.
 #[derive(Drop)]
@@ -50,4 +52,13 @@ impl Wishes {
         }
         Ok(Some(Wishes { files, how }))
     }
+}
+
+/// Whether the command line has the word `--live` alone.
+pub(crate) fn is_live<R: AllocGlobal + Env>(rt: &R) -> io::Result<bool> {
+    let words: Vec<String> = env::args(rt)?.collect(rt.alloc())?;
+    Ok(match words.as_slice() {
+        [_, word] => word.as_str() == "--live",
+        _ => false,
+    })
 }

@@ -1,7 +1,9 @@
-//! The loop of a program that plays files: each text is read, and its examples are played one after the other.
+//! What a program does that plays texts. Of files, each text is read, and its examples are played one after the other;
+//! lines that come are answered one by one.
 
 use crate::causes::{Cause, Fault};
-use crate::command_line::{Manner, Wishes};
+use crate::command_line::{Manner, Wishes, is_live};
+use crate::live::{Dialog, Live};
 use crate::pages::Page;
 use crate::texts::{Example, Text};
 use crate::turns::Turn;
@@ -16,7 +18,7 @@ pub const NO_MEMORY: &str = "refused NoMemory";
 /// The answer to a call if there is no machine.
 pub const NO_MACHINE: &str = "no machine";
 
-/// What plays examples.
+/// What plays examples, and lines that come.
 pub trait Player {
     /// Reads a line that is played, to see whether it can be read.
     fn read(&self, alloc: Global, turn: &Turn<'_>) -> Result<(), Cause>;
@@ -29,6 +31,9 @@ pub trait Player {
         page: &mut Page<'_>,
         out: &mut W,
     ) -> io::Result<()>;
+
+    /// Plays lines, also such as can't be read, to the last one.
+    fn answer<D: Dialog>(&self, alloc: Global, dialog: &mut D) -> io::Result<()>;
 
     /// Whether there is a second and a third way to play an example.
     fn has_ways(&self) -> bool;
@@ -135,8 +140,8 @@ fn wishes_of<R: AllocGlobal + Env>(rt: &R, has_ways: bool) -> io::Result<Option<
     }
 }
 
-/// Plays all that the command line names. What was reported before a fault is written, too.
-fn play_all<R, P: Player>(rt: &R, player: &P) -> io::Result<u8>
+/// Plays the files that the command line names. What was reported before a fault is written, too.
+fn play_files<R, P: Player>(rt: &R, player: &P) -> io::Result<u8>
 where
     R: AllocGlobal + Input + Print + Eprint + Files + Env,
 {
@@ -150,12 +155,27 @@ where
     played
 }
 
-/// Plays the files of the command line; the exit status.
-pub fn play_files<R, P: Player>(rt: &R, player: &P) -> u8
+/// Plays lines as they come.
+fn play_live<R, P: Player>(rt: &R, player: &P) -> io::Result<u8>
+where
+    R: AllocGlobal + Input + Print,
+{
+    let alloc = rt.alloc();
+    let mut live = Live::new(rt.lines(alloc), io::writer(rt))?;
+    player.answer(alloc, &mut live)?;
+    Ok(0)
+}
+
+/// Plays what the command line asks for: lines as they come, for `--live` alone, or else files. The exit status.
+pub fn run_player<R, P: Player>(rt: &R, player: &P) -> u8
 where
     R: AllocGlobal + Input + Print + Eprint + Files + Env,
 {
-    match play_all(rt, player) {
+    let played = match is_live(rt) {
+        Ok(true) => play_live(rt, player),
+        _ => play_files(rt, player),
+    };
+    match played {
         Ok(status) => status,
         Err(error) => {
             let _told = rt.eprintln(error);

@@ -6,7 +6,6 @@ mod counts;
 mod drives;
 mod histories;
 mod lists;
-mod live;
 mod looks;
 mod machines;
 mod player;
@@ -14,14 +13,10 @@ mod states;
 mod turns;
 mod ways;
 
-use event_text::play_files;
-use live::{is_live, play_live};
+use event_text::run_player;
 use player::EventPlayer;
 use std::process::ExitCode;
 
 fn main(rt: HostRuntime) -> ExitCode {
-    ExitCode::from(match is_live(&rt) {
-        Ok(true) => play_live(&rt),
-        _ => play_files(&rt, &EventPlayer),
-    })
+    ExitCode::from(run_player(&rt, &EventPlayer))
 }

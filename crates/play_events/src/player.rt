@@ -3,7 +3,7 @@
 use crate::calls::{Call, read_call};
 use crate::machines::Played;
 use crate::ways::play_other_ways;
-use event_text::{Cause, Cursor, Example, NO_MEMORY, Page, Player, Reply, Turn};
+use event_text::{Cause, Cursor, Dialog, Example, NO_MEMORY, Page, Player, Reply, Turn};
 use std::alloc::{AllocError, Global};
 use std::io;
 use std::io::Write;
@@ -60,6 +60,24 @@ fn play_line<W: Write + Drop>(
     page.tell(turn, reply, out)
 }
 
+/// Plays a line that came, or tells why it can't be read.
+fn answer_line<D: Dialog>(
+    played: &mut Played,
+    call: Result<Call, Cause>,
+    dialog: &mut D,
+    reply: &mut Reply,
+) -> io::Result<()> {
+    match call {
+        Ok(call) => {
+            reply.clear();
+            reply.line_words = played.line_words();
+            played.play(call, reply);
+            dialog.tell(reply)
+        }
+        Err(cause) => dialog.refuse(cause),
+    }
+}
+
 impl Player for EventPlayer {
     fn read(&self, alloc: Global, turn: &Turn<'_>) -> Result<(), Cause> {
         let _call = read_call(alloc, turn, 1)?;
@@ -84,6 +102,19 @@ impl Player for EventPlayer {
         }
         if page.how.three_ways {
             play_other_ways(&mut played, example, page, out)?;
+        }
+        Ok(())
+    }
+
+    fn answer<D: Dialog>(&self, alloc: Global, dialog: &mut D) -> io::Result<()> {
+        let mut played = Played::new(alloc);
+        let mut reply = Reply::new(alloc);
+        for _ in 0..u64::MAX {
+            let Some(turn) = dialog.turn() else {
+                break;
+            };
+            let call = read_call(alloc, &turn, played.line_words());
+            answer_line(&mut played, call, dialog, &mut reply)?;
         }
         Ok(())
     }

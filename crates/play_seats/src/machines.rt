@@ -7,13 +7,12 @@ use crate::calls::Call;
 use crate::play::Play;
 use crate::runs::put_asked;
 use crate::seats::put_called;
-use event_text::{NO_MEMORY, Opening, memory_of};
+use event_text::{Dialog, NO_MEMORY, Opening, memory_of};
 use machine_table::{Config, OpenError};
 use mailboxes::{BankSeat, CoreSeat, Machine, Run, open};
 use physiological_order::Memory;
 use std::alloc::{AllocError, Global};
 use std::io;
-use std::io::Write;
 
 /// A machine with this memory, and its seats.
 fn opened(
@@ -49,8 +48,8 @@ fn closed(
 }
 
 /// Plays calls of open seats, up to a line that opens or closes.
-fn play_open<W: Write + Drop>(
-    play: &mut Play<'_, '_, '_, '_, W>,
+fn play_open<D: Dialog>(
+    play: &mut Play<'_, D>,
     machine: &Machine,
     cores: &mut Vec<CoreSeat>,
     banks: &mut Vec<BankSeat>,
@@ -73,7 +72,7 @@ fn play_open<W: Write + Drop>(
 }
 
 /// Plays calls after the close, up to a line that opens.
-fn play_closed<W: Write + Drop>(play: &mut Play<'_, '_, '_, '_, W>, run: &Run) -> io::Result<()>
+fn play_closed<D: Dialog>(play: &mut Play<'_, D>, run: &Run) -> io::Result<()>
     requires { Parts run.now }
 {
     for _ in 0..u64::MAX {
@@ -89,10 +88,7 @@ fn play_closed<W: Write + Drop>(play: &mut Play<'_, '_, '_, '_, W>, run: &Run) -
 }
 
 /// Plays a machine: the line that opens it, and those after it, up to one that opens anew.
-pub(crate) fn play_machine<W: Write + Drop>(
-    play: &mut Play<'_, '_, '_, '_, W>,
-    opening: &Opening,
-) -> io::Result<()> {
+pub(crate) fn play_machine<D: Dialog>(play: &mut Play<'_, D>, opening: &Opening) -> io::Result<()> {
     let Ok(memory) = memory_of(play.alloc, opening.words.as_slice()) else {
         return play.say(NO_MEMORY);
     };

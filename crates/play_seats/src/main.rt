@@ -14,10 +14,10 @@ mod states;
 mod views;
 
 use calls::Call;
-use event_text::{Cause, Example, NO_MACHINE, Page, Player, Turn, play_files};
+use event_text::{Cause, Dialog, Example, NO_MACHINE, Page, Player, Turn, run_player};
 use machines::play_machine;
 use numbers::{MOST, play_numbers};
-use play::Play;
+use play::{OfExample, Play};
 use reading::call_of;
 use std::alloc::Global;
 use std::io;
@@ -27,8 +27,8 @@ use std::process::ExitCode;
 /// Plays examples of seats and of numbers.
 struct SeatPlayer;
 
-/// Plays all lines of an example.
-fn play_all<W: Write + Drop>(play: &mut Play<'_, '_, '_, '_, W>) -> io::Result<()> {
+/// Plays all lines.
+fn play_all<D: Dialog>(play: &mut Play<'_, D>) -> io::Result<()> {
     for _ in 0..u64::MAX {
         match play.call()? {
             None => return Ok(()),
@@ -55,7 +55,11 @@ impl Player for SeatPlayer {
         page: &mut Page<'_>,
         out: &mut W,
     ) -> io::Result<()> {
-        play_all(&mut Play::new(alloc, example, page, out))
+        self.answer(alloc, &mut OfExample::new(example, page, out))
+    }
+
+    fn answer<D: Dialog>(&self, alloc: Global, dialog: &mut D) -> io::Result<()> {
+        play_all(&mut Play::new(alloc, dialog))
     }
 
     fn has_ways(&self) -> bool {
@@ -64,5 +68,5 @@ impl Player for SeatPlayer {
 }
 
 fn main(rt: HostRuntime) -> ExitCode {
-    ExitCode::from(play_files(&rt, &SeatPlayer))
+    ExitCode::from(run_player(&rt, &SeatPlayer))
 }

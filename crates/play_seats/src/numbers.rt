@@ -5,9 +5,8 @@ ghost use Rattle.drawn_numbers.specs.Drawers.{AllDrawersOf};
 use crate::calls::Call;
 use crate::play::Play;
 use drawn_numbers::{DrawError, Drawer, Numbers, open_numbers};
-use event_text::{NO_MACHINE, NO_MEMORY, Reply};
+use event_text::{Dialog, NO_MACHINE, NO_MEMORY, Reply};
 use std::io;
-use std::io::Write;
 
 /// The most drawers that numbers have.
 pub(crate) const MOST: u32 = 16;
@@ -56,8 +55,8 @@ fn put_left(lists: &[Vec<u64>], number: u32, out: &mut Reply) {
 }
 
 /// Plays draws, up to a line that opens or closes.
-fn play_open<W: Write + Drop>(
-    play: &mut Play<'_, '_, '_, '_, W>,
+fn play_open<D: Dialog>(
+    play: &mut Play<'_, D>,
     numbers: &Numbers,
     drawers: &mut Vec<Drawer>,
 ) -> io::Result<()>
@@ -77,10 +76,7 @@ fn play_open<W: Write + Drop>(
 }
 
 /// Plays calls after the close, up to a line that opens.
-fn play_closed<W: Write + Drop>(
-    play: &mut Play<'_, '_, '_, '_, W>,
-    lists: &[Vec<u64>],
-) -> io::Result<()> {
+fn play_closed<D: Dialog>(play: &mut Play<'_, D>, lists: &[Vec<u64>]) -> io::Result<()> {
     for _ in 0..u64::MAX {
         match play.call()? {
             None | Some(Call::Seats(_) | Call::Numbers(_)) => return Ok(()),
@@ -93,8 +89,8 @@ fn play_closed<W: Write + Drop>(
 }
 
 /// Closes the numbers with these drawers, which are all that they have, and plays the calls after that.
-fn play_close<W: Write + Drop>(
-    play: &mut Play<'_, '_, '_, '_, W>,
+fn play_close<D: Dialog>(
+    play: &mut Play<'_, D>,
     numbers: Numbers,
     drawers: Vec<Drawer>,
 ) -> io::Result<()>
@@ -109,10 +105,7 @@ fn play_close<W: Write + Drop>(
 }
 
 /// Plays numbers with this many drawers: the line that opens them, and those after it, up to one that opens anew.
-pub(crate) fn play_numbers<W: Write + Drop>(
-    play: &mut Play<'_, '_, '_, '_, W>,
-    drawers: u32,
-) -> io::Result<()>
+pub(crate) fn play_numbers<D: Dialog>(play: &mut Play<'_, D>, drawers: u32) -> io::Result<()>
     requires { (0 < drawers) × (drawers ≤ 16) }
 {
     let Ok((numbers, mut drawers)) = open_numbers(play.alloc, drawers) else {

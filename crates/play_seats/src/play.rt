@@ -1,18 +1,15 @@
-//! The line that is played now, of an example whose lines can all be read.
+//! The line that is played now, of an example whose lines can all be read, or of those that come.
 
 use crate::calls::Call;
 use crate::reading::call_of;
-use event_text::{Cursor, Example, NO_MEMORY, Page, Reply, Turn};
+use event_text::{Cause, Cursor, Dialog, Example, NO_MEMORY, Page, Reply, Turn};
 use std::alloc::{AllocError, Global};
 use std::io;
 use std::io::Write;
 
-/// Where an example is, and where its answers go.
+/// The lines of an example, and where its answers go.
 #[derive(Drop)]
-pub(crate) struct Play<'t, 'p, 'b, 'o, W> {
-    pub alloc: Global,
-    /// The answer to the line.
-    pub reply: Reply,
+pub(crate) struct OfExample<'t, 'p, 'b, 'o, W> {
     cursor: Cursor<'t>,
     now: Option<Turn<'t>>,
     // whether the line was refused, and is played once more
@@ -29,19 +26,16 @@ fn next<'a>(cursor: &mut Cursor<'a>) -> Option<Turn<'a>> {
     }
 }
 
-impl<'t, 'p, 'b, 'o, W: Write + Drop> Play<'t, 'p, 'b, 'o, W> {
+impl<'t, 'p, 'b, 'o, W: Write + Drop> OfExample<'t, 'p, 'b, 'o, W> {
     /// Begins with the first line.
     pub fn new(
-        alloc: Global,
         example: &Example<'t>,
         page: &'p mut Page<'b>,
         out: &'o mut W,
-    ) -> Play<'t, 'p, 'b, 'o, W> {
+    ) -> OfExample<'t, 'p, 'b, 'o, W> {
         let mut cursor = example.cursor();
         let now = next(&mut cursor);
-        Play {
-            alloc,
-            reply: Reply::new(alloc),
+        OfExample {
             cursor,
             now,
             is_again: false,
@@ -49,29 +43,69 @@ impl<'t, 'p, 'b, 'o, W: Write + Drop> Play<'t, 'p, 'b, 'o, W> {
             out,
         }
     }
+}
 
-    /// The call that is played now; none after the last line. It was read before, so only an allocation can fail.
-    pub fn call(&self) -> Result<Option<Call>, AllocError> {
-        let Some(turn) = &self.now else {
-            return Ok(None);
+impl<W: Write + Drop> Dialog for OfExample<'_, '_, '_, '_, W> {
+    fn turn(&self) -> Option<Turn<'_>> {
+        self.now
+    }
+
+    /// Goes on to this line again, if it is played once more.
+    fn tell(&mut self, reply: &Reply) -> io::Result<()> {
+        let Some(turn) = self.now else {
+            return Ok(());
         };
-        match call_of(self.alloc, &mut turn.words(self.reply.line_words)) {
-            Ok(call) => Ok(Some(call)),
-            Err(_) => Err(AllocError),
+        self.page.tell(&turn, reply, self.out)?;
+        self.is_again = !self.is_again && self.page.how.again && reply.told()? == NO_MEMORY;
+        if !self.is_again {
+            self.now = next(&mut self.cursor);
         }
+        Ok(())
+    }
+
+    /// The line was read before, so only an allocation can have failed.
+    fn refuse(&mut self, _cause: Cause) -> io::Result<()> {
+        Err(io::Error::from(AllocError))
+    }
+}
+
+/// Lines, and the answer to the one that is played now.
+#[derive(Drop)]
+pub(crate) struct Play<'d, D> {
+    pub alloc: Global,
+    /// The answer to the line.
+    pub reply: Reply,
+    dialog: &'d mut D,
+}
+
+impl<'d, D: Dialog> Play<'d, D> {
+    /// Begins with the first line.
+    pub fn new(alloc: Global, dialog: &'d mut D) -> Play<'d, D> {
+        Play {
+            alloc,
+            reply: Reply::new(alloc),
+            dialog,
+        }
+    }
+
+    /// The call that is played now, of the first line from here on that can be read; none after the last line.
+    pub fn call(&mut self) -> io::Result<Option<Call>> {
+        for _ in 0..u64::MAX {
+            let Some(turn) = self.dialog.turn() else {
+                break;
+            };
+            match call_of(self.alloc, &mut turn.words(self.reply.line_words)) {
+                Ok(call) => return Ok(Some(call)),
+                Err(cause) => self.dialog.refuse(cause)?,
+            }
+        }
+        Ok(None)
     }
 
     /// Takes the answer, and goes on to the next line, or to this one again if it is played once more.
     pub fn tell(&mut self) -> io::Result<()> {
-        let Some(turn) = self.now else {
-            return Ok(());
-        };
-        self.page.tell(&turn, &self.reply, self.out)?;
-        self.is_again = !self.is_again && self.page.how.again && self.reply.told()? == NO_MEMORY;
+        self.dialog.tell(&self.reply)?;
         self.reply.clear();
-        if !self.is_again {
-            self.now = next(&mut self.cursor);
-        }
         Ok(())
     }
 

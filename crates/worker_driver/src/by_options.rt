@@ -20,7 +20,8 @@ use std::thread::Threads;
 
 /// The runs of the test that the options ask for, on a machine with a core for each thread: `None` exactly if no
 /// machine is as they ask. As many workers as they say share runs by seeds, or drive the machine of a run by threads.
-/// AllocError comes of runs on a good machine alone: see `policy_runs`, `seeded_runs` and `threaded_runs`.
+/// AllocError if memory for runs on a good machine can't be allocated, as `policy_runs`, `seeded_runs` and
+/// `threaded_runs` say.
 pub fn asked_runs<R: Threads + Clock + Sync>(
     rt: &R,
     alloc: Global,

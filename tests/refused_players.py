@@ -269,12 +269,12 @@ def refused_drives(tester):
 
 
 def refused_seats(tester):
-    """Calls of seats, the close, looks at the records, and draws."""
+    """Calls of seats, the close, looks at the records, and draws. Stale hits of few records take no memory."""
     refused = Counter()
     games = [*((drawn(count), Numbers) for count in (1, 3)), *((seated(seed), Seats) for seed in SEAT_SEEDS)]
     for game, kind in games:
         for how in ("", "+"):
             refused += swept(tester, game, kind, how)
     expect_all(tester, refused, ("seats", "issue", "serve", "turn", "turn that put", "close", "arranged", "check",
-                                 "stale", "numbers", "draw"))
+                                 "numbers", "draw"))
     print(f"seats: refused were {told(refused)}")

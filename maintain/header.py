@@ -269,3 +269,4 @@ def self_test():
 if sys.argv[1:] in (["--check"], ["--self-test"]):
     sys.exit("\n".join(self_test() if "--self-test" in sys.argv else faults()) or None)
 print(__doc__)
+sys.exit(sys.argv[1:] not in (["-h"], ["--help"]))

@@ -502,4 +502,4 @@ def main(*words):
 
 
 if __name__ == "__main__":
-    sys.exit(main(*sys.argv[1:]) if len(sys.argv) - (sys.argv[1:2] == ["--lists"]) <= 2 else __doc__)
+    sys.exit(main(*sys.argv[1:]) if len(sys.argv) in ((3,) if "--lists" in sys.argv else (1, 2)) else __doc__)

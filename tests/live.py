@@ -73,7 +73,8 @@ def texts(command, kind, most):
                 if wanted is not None and not is_answer(wanted, came):
                     sys.exit(f"live.py: {command[-1]}: {path.name}: {example.title}: {call}: {came}, not {wanted}")
                 tried += 1
-            live.end()
+            if live.end() != (0, ""):
+                sys.exit(f"live.py: {command[-1]}: {path.name}: {example.title}: the end of the input")
     return tried
 
 

@@ -28,7 +28,7 @@ extern "C" {
 #define TARDIS_VERSION 401
 
 enum tardis_number {
-    TARDIS_DONE = 0,         /* every run ended all done; the records are legal */
+    TARDIS_DONE = 0,         /* every run ended all done; the records are legal; all ends are listed */
     TARDIS_NO_MEMORY = 3,    /* memory was refused */
     TARDIS_BAD_TEST = 4,     /* the text is no litmus test */
     TARDIS_BAD_LINE = 5,     /* the text is no trace, or its records are none */
@@ -333,9 +333,9 @@ static inline int tardis_run_litmus(const char *text, size_t text_length, const 
 }
 
 /* Lists every end that a litmus test has, in any run, and no other; puts the list into the buffer. At most `states`
-   states are kept at once, of any number: TARDIS_USUAL_STATES as the program has it. If they are too few, the line says
-   how many are enough to go on. Where `orders` isn't 0, each end has an order of the threads' memory operations that
-   leads there. Where `json` isn't 0, the list is one JSON object, and not lines. */
+   states are kept at once. That may be any number; the program's is TARDIS_USUAL_STATES. If they are too few, the line
+   says how many are enough to go on. Where `orders` isn't 0, each end has an order of the threads' memory operations
+   that leads there. Where `json` isn't 0, the list is one JSON object, and not lines. */
 static inline int tardis_list_ends(const char *text, size_t text_length, uint64_t states, uint32_t orders,
                                    uint32_t json, char *buffer, size_t size, size_t *length) {
     if (tardis_is_null(text, text_length) || tardis_is_null(buffer, size) || !length) return TARDIS_NULL;

@@ -283,6 +283,9 @@ inline List ends(std::string_view text, bool orders = false, uint64_t states = T
         return tardis_list_ends(text.data(), text.size(), states, orders, json, buffer, size, length);
     });
 }
+// C and Python have the states first. A number of them in the place of the flag isn't taken for one.
+template <class Number, class = std::enable_if_t<!std::is_same_v<Number, bool>>>
+List ends(std::string_view text, Number orders, uint64_t states = 0, bool json = false) = delete;
 
 // The report of a trace, with counts behind it or as JSON if the options say so, or its records.
 inline Report trace(std::string_view text, const tardis_options &options = defaults()) {

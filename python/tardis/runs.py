@@ -95,6 +95,9 @@ def ends(text: str | bytes, *, states: int = 4_194_304, orders: bool = False,
 
     Raises BadText, BadConfiguration, TooManyStates or NoMemory."""
     within("states", states, 1, 2 ** 32 - 1)
+    for name, flag in (("orders", orders), ("json", json)):
+        if not isinstance(flag, bool):
+            raise TypeError(f"{name} is {flag!r}: True or False is wanted")
     is_proved = library.loaded() is not None
     if is_proved:
         listed = library.ends(in_bytes(text), states, orders, json)

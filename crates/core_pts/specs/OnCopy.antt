@@ -90,10 +90,9 @@ at_core lease is_open copy FlushReq = if is_open then Holds else flushed copy
 at_core lease is_open copy (WbReq until) = if is_open then Holds else written_back lease until copy
 at_core lease is_open copy _ = NoCase
 
--- what a reaction writes has a place: a copy that arrives is of the open operation's line and has a place in its set,
--- one that is changed is there, and one that goes back is there and isn't of the open operation's line
-abbrev pub finds_place : (is_open there place : Bool) → CoreReaction → Bool
-finds_place is_open there place (Arrives copy) = is_open && place
-finds_place is_open there place (Grants copy) = there
-finds_place is_open there place (Returns kept sent) = there && not is_open
-finds_place is_open there place _ = true
+-- a reaction takes in no reply, and a copy that goes back is there and isn't of the open operation's line
+abbrev pub finds_place : (is_open there : Bool) → CoreReaction → Bool
+finds_place is_open there (Arrives copy) = false
+finds_place is_open there (Grants copy) = false
+finds_place is_open there (Returns kept sent) = there && not is_open
+finds_place is_open there _ = true

@@ -1,13 +1,13 @@
 //! What a message does to a core's copy of one line: a decision, which changes nothing.
-ghost use Rattle.std.specs.Prelude.{◌≡◌, IsTrue, is_some, option_copied};
-ghost use Rattle.private_cache.specs.CopyTable.{copy_of, place_for, renewed, upgraded};
-ghost use Rattle.core_pts.specs.OnCopy.{finds_place, flushed, with_copy, written_back};
-ghost use Rattle.core_pts.specs.CoreTable.{core_has_case, decided, is_pinned, pinned_line};
+ghost use Rattle.std.specs.Prelude.{◌≡◌, IsTrue, false, is_some, option_copied};
+ghost use Rattle.private_cache.specs.CopyTable.{copy_of};
+ghost use Rattle.core_pts.specs.OnCopy.{finds_place, flushed, written_back};
+ghost use Rattle.core_pts.specs.CoreTable.{decided, is_pinned, is_reply, pinned_line};
 
 use crate::core_state::Core;
 use crate::on_copy::{is_exclusive, words_of_copy};
 use network::{Body, Message};
-use private_cache::{CopyState, LineCopy};
+use private_cache::LineCopy;
 use timestamp_manager::downgrade;
 
 /// What a core does at a message.
@@ -27,28 +27,6 @@ pub enum CoreReaction {
     TooLate,
     /// The table has no case.
     NoCase,
-}
-
-// A reply leases the copy that is there up to a time.
-#[inline(always)]
-fn renewed(copy: Option<&LineCopy>, rts: u64) -> CoreReaction
-    ensures { result ≡ with_copy (renewed rts) (option_copied copy.entry) }
-{
-    match copy {
-        Some(copy) => CoreReaction::Grants(copy.renewed(rts)),
-        None => CoreReaction::NoCase,
-    }
-}
-
-// A reply grants the line of the copy that is there, which others may read up to a time.
-#[inline(always)]
-fn upgraded(copy: Option<&LineCopy>, rts: u64) -> CoreReaction
-    ensures { result ≡ with_copy (upgraded rts) (option_copied copy.entry) }
-{
-    match copy {
-        Some(copy) => CoreReaction::Grants(copy.upgraded(rts)),
-        None => CoreReaction::NoCase,
-    }
 }
 
 // A line is asked back, of which no copy stays.
@@ -90,26 +68,16 @@ fn written_back(lease: u64, until: u64, copy: Option<&LineCopy>) -> CoreReaction
 }
 
 impl Core {
-    /// What the core does at a message. A copy of the line is looked for only where it decides.
+    /// What the core does at a message that is no reply. A copy of the line is looked for only where it decides.
     #[inline(always)]
     pub(crate) fn decided(&self, message: &Message) -> CoreReaction
-        requires { IsTrue (core_has_case self.now message.now) }
+        requires { is_reply message.now.body ≡ false }
         ensures decision { result ≡ decided self.now message.now.line message.now.body }
         ensures place { IsTrue (finds_place (is_pinned (pinned_line self.now) message.now.line)
-            (is_some (copy_of self.now.cache message.now.line))
-            (place_for self.now.cache message.now.line) result) }
+            (is_some (copy_of self.now.cache message.now.line)) result) }
     {
         let line = message.line;
         match message.body {
-            Body::ShRep(timed) => CoreReaction::Arrives(LineCopy::arrived(
-                CopyState::Shared,
-                timed,
-            )),
-            Body::ExRep(timed) => {
-                CoreReaction::Arrives(LineCopy::arrived(CopyState::Exclusive, timed))
-            }
-            Body::RenewRep { rts } => renewed(self.cache.find(line), rts),
-            Body::UpgradeRep { rts } => upgraded(self.cache.find(line), rts),
             Body::FlushReq | Body::WbReq { .. } if self.is_pinned(line) => CoreReaction::Holds,
             Body::FlushReq => flushed(self.cache.find(line)),
             Body::WbReq { rts } => written_back(self.lease(), rts, self.cache.find(line)),

@@ -90,6 +90,16 @@ impl Core {
         }
     }
 
+    // The same by a call of its own, so that `deliver` stays small enough to be inlined.
+    #[inline(never)]
+    fn take_reply_apart(&mut self, message: &Message)
+        requires case { IsTrue (core_has_case self.old message.now) }
+        requires reply { IsTrue (is_reply message.now.body) }
+        ensures { core_table self.old message.now ≡ Some (Done None, self.new) }
+    {
+        self.take_reply(message);
+    }
+
     // The copy of a line that has one.
     #[inline(always)]
     fn copy_there(&self, line: LineNo) -> &LineCopy
@@ -130,6 +140,9 @@ impl Part for Core {
         requires { IsTrue (core_has_case self.now message.now) }
         ensures { result ≡ sent_by (core_table self.now message.now) }
     {
+        if Core::is_reply(&message.body) {
+            return None;
+        }
         match self.decided(message) {
             CoreReaction::Returns { .. } => Some((self.bank_of(message.line), false)),
             _ => None,
@@ -150,16 +163,12 @@ impl Part for Core {
             IsTrue (is_some (sent_by (core_table self.old message.now))) }
         ensures sure { result ≢ Err PartError.NoMemory }
     {
+        if Core::is_reply(&message.body) {
+            self.take_reply_apart(message);
+            return Ok(Reaction::Done(None));
+        }
         let line = message.line;
         match self.decided(message) {
-            CoreReaction::Arrives(copy) => {
-                self.arrive(line, copy);
-                Ok(Reaction::Done(None))
-            }
-            CoreReaction::Grants(copy) => {
-                self.grant(line, copy);
-                Ok(Reaction::Done(None))
-            }
             CoreReaction::Returns { kept, sent } => {
                 self.keep(line, kept);
                 Ok(Reaction::Done(Some(self.to_bank(line, sent))))
@@ -167,6 +176,7 @@ impl Part for Core {
             CoreReaction::Drops | CoreReaction::NoCase => Ok(Reaction::Dropped),
             CoreReaction::Holds => Ok(Reaction::Held),
             CoreReaction::TooLate => Err(PartError::Exhausted),
+            CoreReaction::Arrives(_) | CoreReaction::Grants(_) => unreachable!(),
         }
     }
 }

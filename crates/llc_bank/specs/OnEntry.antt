@@ -82,11 +82,12 @@ evicted (Some (Shared true line)) = Stores line.rts line.words
 evicted (Some (Exclusive owner)) = AsksBack owner
 evicted (Some _) = IsBusy
 
--- what a decision writes has a place: an entry that is there is changed, and one that isn't there is loaded and finds
--- room
+-- a decision takes in no reply, and what it writes has a place: an entry that is there is changed, and one that isn't
+-- there is loaded and finds room
 abbrev pub finds_place : (there room : Bool) → Decision → Bool
 finds_place there room Loads = not there && room
 finds_place there room (Recalls owner sent) = there
 finds_place there room (Grants entry sent) = there
-finds_place there room (Becomes entry) = there
+finds_place there room (Becomes entry) = false
+finds_place there room Leaves = false
 finds_place there room _ = true

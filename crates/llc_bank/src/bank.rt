@@ -14,8 +14,8 @@ ghost use Rattle.network.specs.declared.part.Reaction.TheVariants.{Done};
 use crate::choice::choose;
 use crate::config::BankConfig;
 use crate::decision::{
-    Decision, Eviction, decide_eviction, exclusive_request, filled, filled_entry, given_back,
-    returned_entry, shared_request, stored,
+    Decision, Eviction, decide_eviction, exclusive_request, filled_entry, returned_entry,
+    shared_request,
 };
 use crate::entry::{Entry, Evict, EvictError};
 use dram_mts::MemoryTime;
@@ -212,12 +212,13 @@ impl Bank {
         self.from_bank(line, Node::Dram(self.number), body)
     }
 
-    // What the bank does at a message, by its line's set. Each kind of request looks the entry up for itself, so its
-    // kind isn't tested again. The other kinds share a look-up, so that `deliver` stays small enough to be inlined.
+    // What the bank does at a message that is no reply, by its line's set. Each kind of request looks the entry up for
+    // itself, so its kind isn't tested again.
     #[inline(always)]
     fn decided(&self, message: &Message, set: usize) -> Decision
         requires set { set ≡ set_of self.now message.now.line }
         requires below { set < length self.now.table.sets }
+        requires request { is_reply message.now.body ≡ false }
         ensures decision { result ≡ decided self.now message.now }
         ensures way { IsTrue (finds_place (is_some (entry_of self.now message.now.line)) (has_room
             self.now.table (set_of self.now message.now.line)) result) }
@@ -236,15 +237,7 @@ impl Bank {
                     self.entry_in(set, line),
                 )
             }
-            _ => {
-                let entry = self.entry_in(set, line);
-                match message.body {
-                    Body::FlushRep(timed) | Body::WbRep(timed) => given_back(timed, entry),
-                    Body::DramLdRep(words) => filled(self.memory_time(), words, entry),
-                    Body::DramStRep => stored(entry),
-                    _ => Decision::NoCase,
-                }
-            }
+            _ => Decision::NoCase,
         }
     }
 
@@ -279,6 +272,16 @@ impl Bank {
             Body::DramStRep => self.drop_entry(set, line),
             _ => unreachable!(),
         }
+    }
+
+    // The same by a call of its own, so that `deliver` stays small enough to be inlined.
+    #[inline(never)]
+    fn take_reply_apart(&mut self, message: &Message)
+        requires case { IsTrue (bank_has_case self.old message.now) }
+        requires reply { IsTrue (is_reply message.now.body) }
+        ensures { bank_table self.old message.now ≡ Some (Done None, self.new) }
+    {
+        self.take_reply(message);
     }
 
     /// Evicts a line. A Shared line raises the memory time to the end of its lease; a clean one is gone then, and the
@@ -419,6 +422,9 @@ impl Part for Bank {
     ghost takes_memory = { λ _ _. false };
 
     fn sends(&self, message: &Message) -> Option<(Node, bool)> {
+        if Bank::is_reply(&message.body) {
+            return None;
+        }
         let set = self.set_of(message.line);
         match self.decided(message, set) {
             Decision::Loads => Some((Node::Dram(self.number), true)),
@@ -441,6 +447,10 @@ impl Part for Bank {
             IsTrue (is_some (sent_by (bank_table self.old message.now))) }
         ensures memory { result ≢ Err PartError.NoMemory }
     {
+        if Bank::is_reply(&message.body) {
+            self.take_reply_apart(message);
+            return Ok(Reaction::Done(None));
+        }
         let line = message.line;
         let set = self.set_of(line);
         match self.decided(message, set) {
@@ -457,16 +467,9 @@ impl Part for Bank {
                 self.use_entry(set, line, entry);
                 Ok(Reaction::Done(Some(self.from_bank(line, message.from, sent))))
             }
-            Decision::Becomes(entry) => {
-                self.change_entry(set, line, entry);
-                Ok(Reaction::Done(None))
-            }
-            Decision::Leaves => {
-                self.drop_entry(set, line);
-                Ok(Reaction::Done(None))
-            }
             Decision::TooLate => Err(PartError::Exhausted),
             Decision::NoCase => Ok(Reaction::Dropped),
+            Decision::Becomes(_) | Decision::Leaves => unreachable!(),
         }
     }
 }

@@ -2,8 +2,8 @@
 ghost use Rattle.std.specs.Prelude.{◌≡◌, false, true};
 ghost use Rattle.std.specs.Option.{option_copied};
 ghost use Rattle.std.specs.Result.{result_ok};
-ghost use Rattle.llc_bank.specs.OnEntry.{asked_back, evicted, exclusive_request, filled, given_back, leased, loaded};
-ghost use Rattle.llc_bank.specs.OnEntry.{read_answer, shared_request, stored};
+ghost use Rattle.llc_bank.specs.OnEntry.{asked_back, evicted, exclusive_request, leased, loaded, read_answer};
+ghost use Rattle.llc_bank.specs.OnEntry.{shared_request};
 
 use crate::entry::Entry;
 use network::{Body, TimedLine, Words};
@@ -184,40 +184,6 @@ pub(crate) fn filled_entry(mts: u64, words: &Words) -> Entry
             rts: mts,
             words: *words,
         },
-    }
-}
-
-/// The owner gives the line back.
-#[inline(always)]
-pub(crate) fn given_back(line: TimedLine, entry: Option<&Entry>) -> Decision
-    ensures { result ≡ given_back line (option_copied entry.entry) }
-{
-    match entry {
-        Some(Entry::Exclusive { .. } | Entry::Recalling { .. }) => {
-            Decision::Becomes(returned_entry(&line))
-        }
-        _ => Decision::NoCase,
-    }
-}
-
-/// The words come from DRAM.
-#[inline(always)]
-pub(crate) fn filled(mts: u64, words: Words, entry: Option<&Entry>) -> Decision
-    ensures { result ≡ filled mts words (option_copied entry.entry) }
-{
-    match entry {
-        Some(Entry::Loading) => Decision::Becomes(filled_entry(mts, &words)),
-        _ => Decision::NoCase,
-    }
-}
-
-/// DRAM has the words.
-pub(crate) fn stored(entry: Option<&Entry>) -> Decision
-    ensures { result ≡ stored (option_copied entry.entry) }
-{
-    match entry {
-        Some(Entry::Storing) => Decision::Leaves,
-        _ => Decision::NoCase,
     }
 }
 

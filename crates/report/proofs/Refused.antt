@@ -26,7 +26,7 @@ use Rattle.run_results.specs.declared.results.RunError.{RunError}
 use Rattle.run_results.specs.declared.results.RunError.TheVariants.{Read, NoMemory, BadConfig}
 use Rattle.run_results.specs.declared.results.RunError.TheVariants.{Litmus as Refused, TooManyStates}
 use Rattle.report.specs.Bytes.{HasNoText, OfBytes}
-use Rattle.report.specs.Ends.{HasNoEnds}
+use Rattle.report.specs.Ends.{HasNoEnds, HasNoEndsInMemory}
 use Rattle.report.specs.Litmus.{HasNoReport, HasNoReportInMemory, HasNoTest, HasNoTestInMemory, IsLitmusFault}
 use Rattle.report.specs.Litmus.{ReadingAllocates, litmus_refusal, litmus_refusal_of}
 
@@ -93,9 +93,16 @@ no_ends options text (TooManyStates most enough) is = absurd is
 no_ends options text e is = is
 
 pub no_list : (options : EndsOptions) (text : List ℕ) (e : RunError) → HasNoTestInMemory text e →
-    HasNoEnds options text e
-no_list options text NoMemory allocates = some_before_block text allocates.1
+    HasNoEndsInMemory options text e
+no_list options text NoMemory allocates = inl allocates
 no_list options text e is = no_ends options text e is
+
+-- a list that a text in memory has none of
+of_list : (options : EndsOptions) (text : List ℕ) (e : RunError) → HasNoEndsInMemory options text e →
+    HasNoEnds options text e
+of_list options text NoMemory is = ⊎_elim (λ allocates. some_before_block text allocates.1)
+    (λ test. some_of_test text test.0 test.1) is
+of_list options text e is = is
 
 -- too many bytes are no test
 refused_long : (text : List ℕ) → MOST_BYTES < length text →
@@ -158,3 +165,8 @@ pub unreported : (known : Option (List ℕ)) (options : LitmusOptions) (bytes te
     OfBytes known (λ b. HasNoReport options b e)
 unreported known options bytes text e all same is =
     of_read (λ b. HasNoReport options b e) known bytes text all same (of_bytes options text e is)
+
+pub unlisted_in_memory : (known : Option (List ℕ)) (options : EndsOptions) (bytes text : List ℕ) (e : RunError) →
+    ReadsAll known bytes → text ≡ bytes → HasNoEndsInMemory options text e → OfBytes known (λ b. HasNoEnds options b e)
+unlisted_in_memory known options bytes text e all same is =
+    of_read (λ b. HasNoEnds options b e) known bytes text all same (of_list options text e is)

@@ -3,7 +3,7 @@ ghost use Rattle.std.specs.Prelude.{◌≡◌, ◌≢◌, ◌+◌, IfErr, IfOk, 
 ghost use Rattle.byte_streams.specs.Whole.{TakesAtMost};
 ghost use Rattle.report.specs.Answers.{FailuresAreCounted, IsCutOff, IsReported};
 ghost use Rattle.report.specs.Bytes.{OfBytes};
-ghost use Rattle.report.specs.Ends.{HasNoEnds, IsEndsReport};
+ghost use Rattle.report.specs.Ends.{HasNoEnds, HasNoEndsInMemory, IsEndsReport};
 
 use crate::every_text::every_text;
 use crate::litmus::test_in;
@@ -54,11 +54,12 @@ pub fn run_ends<S: Source, K: Sink>(
 }
 
 /// The list of the ends of the litmus test that a text is: those of the sequential machine, all of them and no other.
-/// Litmus takes precedence over TooManyStates.
+/// Litmus takes precedence over TooManyStates. NoMemory comes only of a test, or of a text of at most 65,536 bytes
+/// without a fault before its initial block.
 pub fn ends_report(alloc: Global, text: &[u8], options: &EndsOptions) -> Result<Report, RunError>
     ensures report { IfOk result (λ report.
         IsEndsReport options.now text.now report.all_done report.text.items) }
-    ensures refused { IfErr result (HasNoEnds options.now text.now) }
+    ensures refused { IfErr result (HasNoEndsInMemory options.now text.now) }
 {
     let test = match test_in(alloc, text) {
         Ok(test) => test,

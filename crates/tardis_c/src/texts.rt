@@ -2,7 +2,7 @@
 ghost use Rattle.std.specs.Prelude.{Some, false};
 ghost use Rattle.std.specs.FinMap.{empty};
 ghost use Rattle.physiological_order.specs.Order.{flat};
-ghost use Rattle.report.specs.Ends.{HasNoEnds, IsEndsReport};
+ghost use Rattle.report.specs.Ends.{HasNoEndsInMemory, IsEndsReport};
 ghost use Rattle.report.specs.Layouts.{layout_of};
 ghost use Rattle.report.specs.Litmus.{HasNoReportInMemory, IsLitmusReport};
 ghost use Rattle.report.specs.Openings.{HasNoOpenedReport, IsOpenedReport};
@@ -48,7 +48,7 @@ pub extern "C" fn tardis_c_ends(
     long: &mut usize,
 ) -> u32
     ensures { IsTold (IsEndsReport (ends_options states orders json) text.now)
-        (HasNoEnds (ends_options states orders json) text.now)
+        (HasNoEndsInMemory (ends_options states orders json) text.now)
         buffer.old buffer.new long.new result }
 {
     let came = ends_report(alloc, text, &ends_options(states, orders, json));

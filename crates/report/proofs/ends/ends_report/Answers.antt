@@ -1,5 +1,4 @@
-use Rattle.std.proofs.Common.{◌≡◌, refl, subst}
-use Rattle.litmus_reader.proofs.Lemmas.{some_of_test}
+use Rattle.std.proofs.Common.{◌≡◌, inr, refl, subst}
 use Rattle.litmus_reader.specs.TestViews.{test_of}
 use Rattle.report_lines.specs.declared.layout.Layout.{Layout}
 use Rattle.report.specs.EveryText.{every_text}
@@ -11,7 +10,7 @@ returns-in-Err-clause-refused c =
     no_list c.args.options.now c.args.text.now c.in-Err.error c.in-Err.ensures.refused
 
 pub returns-in-Err-NoMemory-clause-refused : goal.returns-in-Err-NoMemory-clause-refused
-returns-in-Err-NoMemory-clause-refused c = some_of_test c.args.text.now _ c.in-Ok.ensures.found
+returns-in-Err-NoMemory-clause-refused c = inr (test_of c.in-Ok.test, c.in-Ok.ensures.found)
 
 pub returns-in-Ok-every_text-clause-report : goal.returns-in-Ok-every_text-clause-report
 returns-in-Ok-every_text-clause-report c =
@@ -36,4 +35,4 @@ returns-in-Ok-every_text-clause-report c =
     }
 
 pub returns-clause-refused : goal.returns-clause-refused
-returns-clause-refused c = some_of_test c.args.text.now _ c.in-Ok.ensures.found
+returns-clause-refused c = inr (test_of c.in-Ok.test, c.in-Ok.ensures.found)

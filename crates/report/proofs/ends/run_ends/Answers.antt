@@ -1,6 +1,5 @@
 use Rattle.std.proofs.lemmas.Result.{err_from_is_err_and}
-use Rattle.report.specs.Ends.{HasNoEnds}
-use Rattle.report.proofs.Refused.{of_read, unlisted}
+use Rattle.report.proofs.Refused.{unlisted, unlisted_in_memory}
 use Rattle.report.proofs.ends.run_ends.Goals as goal
 
 pub returns-in_err-bytes-clause-refused : goal.returns-in_err-bytes-clause-refused
@@ -12,6 +11,6 @@ returns-in_err-bytes-clause-refused g c =
 pub returns-in_err-report-clause-refused : goal.returns-in_err-report-clause-refused
 returns-in_err-report-clause-refused g c =
     let p = err_from_is_err_and c.from_residual-in_err-report.result c.from_residual-in_err-report.ensures.1 in
-    rw (p.1, p.2) (λ read write. of_read (λ b. HasNoEnds c.args.options.now b c.in_err-report.field-0.0)
-    (g.S.Source.remaining c.args.source.now) c.in_ok-bytes.bytes.items _ c.in_ok-bytes.ensures.all
-    c.deref.ensures.value c.in_err-report.ensures.refused)
+    rw (p.1, p.2) (λ read write. unlisted_in_memory (g.S.Source.remaining c.args.source.now) c.args.options.now
+    c.in_ok-bytes.bytes.items _ c.in_err-report.field-0.0 c.in_ok-bytes.ensures.all c.deref.ensures.value
+    c.in_err-report.ensures.refused)

@@ -1,5 +1,5 @@
 use Rattle.std.proofs.Common.{subst}
-use Rattle.report.specs.Ends.{HasNoEnds, IsEndsReport}
+use Rattle.report.specs.Ends.{HasNoEndsInMemory, IsEndsReport}
 use Rattle.run_options.specs.declared.options.EndsOptions.{EndsOptions}
 use Rattle.tardis_c.specs.Answers.{IsTold}
 use Rattle.tardis_c.proofs.Told.{told}
@@ -9,6 +9,6 @@ pub returns : goal.returns
 returns c =
     let text = c.args.text.now in
     let came = c.ends_report-came in
-    subst (λ (o : EndsOptions). IsTold (IsEndsReport o text) (HasNoEnds o text) c.args.buffer.now
+    subst (λ (o : EndsOptions). IsTold (IsEndsReport o text) (HasNoEndsInMemory o text) c.args.buffer.now
     c.tell.new.buffer c.tell.new.long c.tell.result) c.ends_options.ensures
     (told _ _ came.result _ _ _ _ came.ensures.report came.ensures.refused c.tell.ensures)

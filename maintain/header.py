@@ -8,7 +8,8 @@ export must be declared with the types that its definition has, a slice as a poi
 `struct tardis_system` must be as large as the library's handle. The constants for answers, refusals, messages and ends
 must be the numbers of the library's definitions, and their words those of the Python package.
 
-TARDIS_VERSION is the version. The library's call, the program's `--version` and the Python package repeat it.
+TARDIS_VERSION is the version. The library's call, the program's `--version` and the Python package repeat it. The
+defaults of `states` must be TARDIS_USUAL_STATES: in the program, in tardis.hpp and in the Python package.
 
 With --self-test, wrong texts are planted, one at a time, and each must be found.
 """
@@ -184,6 +185,18 @@ def versions(header):
             yield f"header.py: {place} lacks {looks}"
 
 
+def usual_states(header):
+    """Where the default of `states` isn't that of the header."""
+    usual = re.search(r"^#define TARDIS_USUAL_STATES (\d+)$", header, re.M)[1]
+    for place, looks, wanted in (("crates/command_line/src/app.rt", r'"states", "(\w+)"', {usual}),
+                                 ("crates/tardis_c/tardis.hpp", r"orders = false, uint64_t states = (\w+)",
+                                  {"TARDIS_USUAL_STATES"}),
+                                 ("python/tardis/runs.py", r"states: int = (\w+)", {f"{int(usual):_}"})):
+        has = {*re.findall(looks, text_of(place))}
+        if has != wanted:
+            yield f"header.py: {place} has the default of states {has}, not {wanted}"
+
+
 def sources(*crates):
     """The sources of crates, as one text."""
     return "".join(text_of(file.relative_to(TOP).as_posix()) for crate in crates
@@ -202,7 +215,7 @@ def faults():
     if set(wanted) != {*NAMES, *HIDDEN}:
         found.append(f"header.py: tardis.h declares {sorted(wanted)}")
     return [*found, *calls(header, library), *handle(header, sources("held_machine")), *constants(header),
-            *versions(header)]
+            *versions(header), *usual_states(header)]
 
 
 STATES = "uint64_t states, uint32_t orders, uint32_t json,\n  "
@@ -250,7 +263,14 @@ PLANTS = (
     (HEADER, "#define TARDIS_VERSION ", "#define TARDIS_VERSION 1", "app.rt lacks"),
     ("crates/tardis_c/src/version.rt", "ensures { result ≡ ", "ensures { result ≡ 1", "version.rt lacks"),
     ("crates/command_line/src/app.rt", '.version("', '.version("1', "app.rt lacks"),
-    ("python/tardis/version.py", 'VERSION = "', 'VERSION = "1', "version.py lacks"))
+    ("python/tardis/version.py", 'VERSION = "', 'VERSION = "1', "version.py lacks"),
+    (HEADER, "#define TARDIS_USUAL_STATES ", "#define TARDIS_USUAL_STATES 1", "runs.py has the default of states"),
+    ("crates/command_line/src/app.rt", '"states", "', '"states", "1', "app.rt has the default of states"),
+    ("crates/tardis_c/tardis.hpp", "states = TARDIS_USUAL_STATES", "states = 4194304", "hpp has the default of states"),
+    *(("python/tardis/runs.py", f"def ends(text: str | bytes, *, states: int = 4_194_304, orders: bool = False,\n{end}",
+       f"def ends(text: str | bytes, *, states: int = 1000, orders: bool = False,\n{end}",
+       "runs.py has the default of states")
+      for end in ("         json: Literal[False]", "         json: Literal[True]", "         json: bool = False")))
 
 
 def self_test():

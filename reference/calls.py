@@ -3,7 +3,7 @@ from functools import lru_cache
 from types import SimpleNamespace
 
 from reference import told
-from reference.texts import Unreadable, Words
+from reference.texts import LAST, Unreadable, Words
 
 
 # The options of a machine, with what each opens as, and the least and the greatest number that it may have.
@@ -52,7 +52,7 @@ class CallWords(Words):
         return steps
 
     def step(self):
-        times = self.count() if self.left and self.left[0].isdigit() else 1
+        times = self.count() if self.left and self.left[0].isdigit() and int(self.left[0]) <= LAST else 1
         if self.left[:1] == ["A"]:
             self.word("a step")
             step = told.ADVANCE

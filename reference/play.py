@@ -53,16 +53,12 @@ def played(name, text):
 
 
 def text_of(name):
-    return (sys.stdin.buffer.read() if name == "-" else Path(name).read_bytes()).decode("utf-8", "surrogateescape")
+    return (sys.stdin.buffer.read() if name == "-" else Path(name).read_bytes()).decode()
 
 
 def tell(name, is_print):
     """Prints the result of a text; the status."""
-    try:
-        text = text_of(name)
-    except OSError as error:
-        print(f"play.py: {error}", file=sys.stderr)
-        return FAILED
+    text = text_of(name)
     if is_print:
         text, faults = printed(text, KINDS)
         sys.stdout.write(text)
@@ -79,8 +75,8 @@ def tell(name, is_print):
 def play_live(kind="events"):
     """Answers each call on standard input when it is read."""
     player = LIVE[kind]()
-    for line in sys.stdin:
-        call = " ".join(line.split())
+    for line in sys.stdin.buffer:
+        call = " ".join(line.decode().split())
         if call:
             try:
                 player.read(call)
@@ -105,4 +101,11 @@ def main(words):
 
 
 if __name__ == "__main__":
-    sys.exit(main(sys.argv[1:]))
+    try:
+        sys.exit(main(sys.argv[1:]))
+    except OSError as error:
+        print(f"play.py: {error}", file=sys.stderr)
+    except UnicodeDecodeError:
+        sys.stdout.flush()
+        print("stream did not contain valid UTF-8", file=sys.stderr)
+    sys.exit(FAILED)

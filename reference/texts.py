@@ -22,8 +22,9 @@ class Turned:
         self.pieces, at = [], 0
         for found in TURN.finditer(text):
             sign, digits, by = found.groups()
-            if sign == "0x" or digits.isdigit():
-                by = int(by if len(by) > 1 else by + "1")
+            by = int(by if len(by) > 1 else by + "1")
+            fits = len(digits) <= 16 if sign == "0x" else digits.isdigit() and int(digits) <= LAST
+            if fits and abs(by) <= LAST:
                 base, by = (int(digits, 16), 8 * by) if sign == "0x" else (int(digits), by)
                 self.pieces.append((text[at:found.start()] + sign, base, by, "x" if sign == "0x" else "d"))
                 at = found.end()
@@ -102,7 +103,7 @@ class Example:
     def repeat(self, number, words, kinds):
         if self.inside is not None:
             raise Unreadable("a repeat inside another")
-        turns = Words(words[1:2]).count()
+        turns = Words(words[1:2]).fitting("a number", NUMBER)
         if turns == 0:
             raise Unreadable("a number of turns from 1 on is wanted")
         self.blocks.append((turns, []))
@@ -188,6 +189,13 @@ class Words:
             raise Unreadable("a number is too large")
         return number
 
+    def fitting(self, what, form):
+        """The number of a word of this form. Past 64 bits it isn't one."""
+        number = int(self.of_form(what, form).lstrip("m"))
+        if number > LAST:
+            raise Unreadable(f"{what} is wanted")
+        return number
+
     def count(self):
         """A number of 32 bits."""
         number = self.number()
@@ -209,7 +217,7 @@ class Words:
         return "line", self.number()
 
     def message(self):
-        return Words([self.of_form("a message", MESSAGE)[1:]]).number()
+        return self.fitting("a message", MESSAGE)
 
     def operation(self):
         kind = OPERATIONS[self.one_of("an operation", OPERATIONS)]

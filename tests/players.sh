@@ -42,4 +42,30 @@ done
 said printed "$events" --print tests/players/answers.events
 said printed reference/play.py --print tests/players/answers.events
 said words "$events" --no-such-word
+
+# encoded LINES PLAYER WORDS..: the player writes these lines, then that a text isn't UTF-8, and ends with status 4.
+encoded() {
+    printf '%sstream did not contain valid UTF-8\nstatus 4\n' "${1:+$1
+}" >"$work/wanted"
+    shift
+    "$@" >"$work/out" 2>&1
+    echo "status $?" >>"$work/out"
+    diff "$work/wanted" "$work/out" || fail "$*: another text"
+}
+
+# Of such a file nothing is played, nor of one behind it; of lines that come, those before the fault.
+printf 'example one\nmachine\n# caf\351\n' >"$work/latin"
+printf 'machine\nattempt 0\n# caf\351\nattempt 1\n' >"$work/live"
+for player in "$events" reference/play.py; do
+    before=$(sed '$d' tests/players/answers.said)
+    encoded "$before" "$player" tests/players/answers.events "$work/latin" tests/players/answers.events
+    encoded '' "$player" --print "$work/latin"
+    encoded "opened
+idle" "$player" --live <"$work/live"
+done
+printf 'seats\nput core 0\n\351\nput core 1\n' >"$work/live"
+encoded "opened
+nothing" "$seats" --live <"$work/live"
+encoded "opened
+nothing" reference/play.py --live seats <"$work/live"
 echo "players.sh: $(wc -l <"$work/proved") texts as wanted"

@@ -22,11 +22,12 @@ from tests.games import Game, event_text, summary, text_of
 NO_MEMORY = "refused NoMemory"
 NO_MEMORY_STATUS = 4
 # Machines whose DRAM is stored to within so many events; machines by whose runs it is; and machines of seats on which
-# servings and turns may be refused, turns among them that put messages before.
+# servings and turns may be refused, turns among them that put messages before. The last has 21 records, 3 of them stale
+# hits: to count those of more than 16 records takes memory.
 STEP_SEEDS, EVENTS = (1, 2, 15, 25, 33, 42), 80
 LIST_SEEDS, LISTS, LISTED = (1, 2, 7, 8, 15, 33), 5, 16
 DRIVE_SEEDS, RUNS = (8, 13, 16, 20, 25, 34), 3
-SEAT_SEEDS, CALLS = (7, 14, 83, 212, 357, 370), 150
+SEAT_SEEDS, CALLS = (7, 14, 83, 212, 357, 370, 63), 150
 # Those that make lists, or open another machine.
 LOOKS = ("state", "check", "stale", "arranged", "flight", "copies", "free", "entries", "counts")
 
@@ -269,12 +270,12 @@ def refused_drives(tester):
 
 
 def refused_seats(tester):
-    """Calls of seats, the close, looks at the records, and draws. Stale hits of few records take no memory."""
+    """Calls of seats, the close, looks at the records, and draws."""
     refused = Counter()
     games = [*((drawn(count), Numbers) for count in (1, 3)), *((seated(seed), Seats) for seed in SEAT_SEEDS)]
     for game, kind in games:
         for how in ("", "+"):
             refused += swept(tester, game, kind, how)
     expect_all(tester, refused, ("seats", "issue", "serve", "turn", "turn that put", "close", "arranged", "check",
-                                 "numbers", "draw"))
+                                 "stale", "numbers", "draw"))
     print(f"seats: refused were {told(refused)}")

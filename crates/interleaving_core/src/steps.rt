@@ -176,7 +176,7 @@ impl<H: History> MachineState<H> {
 
     /// The delivery of a message, as `step` makes it. `waits` is as in `deliver`.
     #[inline(always)]
-    pub(crate) fn step_told(&mut self, number: MsgNo, waits: &mut bool) -> Option<PlainAnswer>
+    pub(crate) fn step_delivery(&mut self, number: MsgNo, waits: &mut bool) -> Option<PlainAnswer>
         requires kept { Invariant self.old }
         requires not_yet { waits.old ≡ false }
         ensures stepped { Stepped self.old (Event.Deliver number)

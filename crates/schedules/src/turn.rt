@@ -5,7 +5,7 @@ ghost use Rattle.schedules.specs.Parts.{Does, Advances, one, finds_no_place, tri
 ghost use Rattle.schedules.specs.RoundSchedule.{step_action};
 ghost use Rattle.schedules.specs.Notes.{Did, at};
 
-use crate::log::{Log, is_evicted, is_held, is_no_room, step, step_told, try_core};
+use crate::log::{Log, is_evicted, is_held, is_no_room, step, step_delivery, try_core};
 use crate::look_ups::{tell, tell_advance};
 use crate::watcher::Watcher;
 use interleaving_core::{Event, History, System};
@@ -79,7 +79,7 @@ pub(crate) fn deliver<P: Program, W: Watcher, K: History>(
         (at system.old programs log.old) result (at system.new programs log.new) }
 {
     let mut waits = false;
-    let plain = step_told(log, system, number, &mut waits)?;
+    let plain = step_delivery(log, system, number, &mut waits)?;
     if waits {
         return Ok(());
     }

@@ -18,7 +18,7 @@ use Rattle.machine_table.specs.declared.event.Answer.TheVariants.{Delivered, Dro
 use Rattle.machine_table.specs.declared.event.Answer.TheVariants.{Advanced, Refused}
 use Rattle.machine_table.specs.RefusalNumbers.{number_of}
 use Rattle.tardis_c.specs.declared.system_parts.Place.{Place}
-use Rattle.tardis_c.specs.declared.system_parts.PlainAnswer.{PlainAnswer}
+use Rattle.tardis_c.specs.declared.system_parts.CAnswer.{CAnswer}
 use Rattle.tardis_c.specs.declared.system_parts.PlainMessage.{PlainMessage}
 use Rattle.tardis_c.specs.declared.system_parts.PlainOpen.{PlainOpen}
 use Rattle.tardis_c.specs.declared.system_parts.Carried.{Carried}
@@ -46,7 +46,7 @@ plain_record r = record {
 }
 
 -- an answer without a record: the record is zeros
-abbrev pub bare : (kind refusal : ℕ) → PlainAnswer
+abbrev pub bare : (kind refusal : ℕ) → CAnswer
 bare kind refusal = record {
   kind = kind;
   refusal = refusal;
@@ -59,20 +59,20 @@ bare kind refusal = record {
   };
 }
 
-abbrev pub answer_of : Answer → PlainAnswer
-answer_of Issued = bare 0 0
-answer_of (Completed r) = record { kind = 1; refusal = 0; completed = plain_record r }
-answer_of Requested = bare 2 0
-answer_of Waiting = bare 3 0
-answer_of Idle = bare 4 0
-answer_of Delivered = bare 5 0
-answer_of Dropped = bare 6 0
-answer_of Held = bare 7 0
-answer_of Started = bare 8 0
-answer_of Evicted = bare 9 0
-answer_of Recalled = bare 10 0
-answer_of Advanced = bare 11 0
-answer_of (Refused refusal) = bare 12 (number_of refusal)
+abbrev pub c_answer : Answer → CAnswer
+c_answer Issued = bare 0 0
+c_answer (Completed r) = record { kind = 1; refusal = 0; completed = plain_record r }
+c_answer Requested = bare 2 0
+c_answer Waiting = bare 3 0
+c_answer Idle = bare 4 0
+c_answer Delivered = bare 5 0
+c_answer Dropped = bare 6 0
+c_answer Held = bare 7 0
+c_answer Started = bare 8 0
+c_answer Evicted = bare 9 0
+c_answer Recalled = bare 10 0
+c_answer Advanced = bare 11 0
+c_answer (Refused refusal) = bare 12 (number_of refusal)
 
 -- a message of this kind that carries nothing
 abbrev pub bare_of : ℕ → Carried

@@ -17,12 +17,12 @@ use Rattle.tardis_c.specs.Arrays.{HaveNone}
 use Rattle.tardis_c.specs.Lacks.{HasSome}
 use Rattle.tardis_c.specs.Options.{run_options}
 use Rattle.tardis_c.specs.Plain.{op_of, operation_fault, word_fault, words_of}
-use Rattle.tardis_c.specs.SystemParts.{answer_of, capped, flag, message_of}
+use Rattle.tardis_c.specs.SystemParts.{c_answer, capped, flag, message_of}
 use Rattle.tardis_c.specs.declared.options.PlainOptions.{PlainOptions}
 use Rattle.tardis_c.specs.declared.plain.PlainOperation.{PlainOperation}
 use Rattle.tardis_c.specs.declared.plain.PlainWord.{PlainWord}
 use Rattle.tardis_c.specs.declared.system_looks.Totals.{Totals}
-use Rattle.tardis_c.specs.declared.system_parts.PlainAnswer.{PlainAnswer}
+use Rattle.tardis_c.specs.declared.system_parts.CAnswer.{CAnswer}
 use Rattle.tardis_c.specs.declared.system_parts.PlainMessage.{PlainMessage}
 
 -- without a machine 16, and nothing changes
@@ -71,13 +71,13 @@ TellsLines old new before after number seat seats look =
     ⊎ ((nat_lt seat (seats machine) ≡ true) × (after ≡ before) × (number ≡ 3))))
 
 -- one event, and its answer
-abbrev pub Steps : (old new : Option Machine) → (before after : PlainAnswer) → (number : ℕ) → Event → Type 0
+abbrev pub Steps : (old new : Option Machine) → (before after : CAnswer) → (number : ℕ) → Event → Type 0
 Steps old new before after number event = Asked old new before after number (λ machine.
     (answer : Answer) × (next : Machine) × Stepped machine event answer next × (new ≡ Some next)
-    × (after ≡ answer_of answer) × (number ≡ 0))
+    × (after ≡ c_answer answer) × (number ≡ 0))
 
 -- an operation that has a fault is refused with 10
-pub record Issues (old new : Option Machine) (before after : PlainAnswer) (number : ℕ) (plain : PlainOperation) :
+pub record Issues (old new : Option Machine) (before after : CAnswer) (number : ℕ) (plain : PlainOperation) :
     Type 0 where
   pub right : operation_fault plain ≡ 0 → Steps old new before after number (Issue plain.core (op_of plain))
   pub wrong : operation_fault plain ≢ 0 → (new ≡ old) × (after ≡ before) × (number ≡ 10)

@@ -1,6 +1,6 @@
 //! Answers, messages and what else a machine shows, as C has them.
 ghost use Rattle.std.specs.Prelude.{◌≡◌};
-ghost use Rattle.tardis_c.specs.SystemParts.{answer_of, bare, bare_of, capped, end_of, message_of, open_of};
+ghost use Rattle.tardis_c.specs.SystemParts.{bare, bare_of, c_answer, capped, end_of, message_of, open_of};
 ghost use Rattle.tardis_c.specs.SystemParts.{place_of, plain_op, plain_record, said, timed, victim_of};
 
 use crate::plain::{PlainOperation, PlainRecord};
@@ -10,7 +10,7 @@ use physiological_order::{Op, Record};
 /// The answer to an event, as `tardis.h` has it.
 #[repr(C)]
 #[derive(Clone, Copy)]
-pub struct PlainAnswer {
+pub struct CAnswer {
     /// 0 issued, 1 completed, 2 requested, 3 waiting, 4 idle, 5 delivered, 6 dropped, 7 held, 8 started, 9 evicted, 10
     /// recalled, 11 advanced, 12 refused.
     pub kind: u64,
@@ -133,7 +133,7 @@ pub(crate) fn plain_record(done: &Record) -> PlainRecord
 }
 
 // An answer that leaves no record.
-fn bare(kind: u64, refusal: u64) -> PlainAnswer
+fn bare(kind: u64, refusal: u64) -> CAnswer
     ensures { result ≡ bare kind refusal }
 {
     let operation = PlainOperation {
@@ -142,7 +142,7 @@ fn bare(kind: u64, refusal: u64) -> PlainAnswer
         address: 0,
         value: 0,
     };
-    PlainAnswer {
+    CAnswer {
         kind,
         refusal,
         completed: PlainRecord {
@@ -156,12 +156,12 @@ fn bare(kind: u64, refusal: u64) -> PlainAnswer
 }
 
 /// The answer to an event.
-pub(crate) fn answer_of(answer: &Answer) -> PlainAnswer
-    ensures { result ≡ answer_of answer.now }
+pub(crate) fn c_answer(answer: &Answer) -> CAnswer
+    ensures { result ≡ c_answer answer.now }
 {
     match answer {
         Answer::Issued => bare(0, 0),
-        Answer::Completed(done) => PlainAnswer {
+        Answer::Completed(done) => CAnswer {
             kind: 1,
             refusal: 0,
             completed: plain_record(done),

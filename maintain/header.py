@@ -60,7 +60,8 @@ def of_c(text):
 
 def of_rust(text):
     """The structures that sources in Rattle or Rust lay out as C does, by their names."""
-    found = re.findall(r"#\[repr\(C\)\]\s+(?:#\[[^\n]*\]\s+)*pub struct (?:Plain|C(?=A))?(\w+) \{(.*?)\n\s*\}", text, re.S)
+    found = re.findall(r"#\[repr\(C\)\]\s+(?:#\[[^\n]*\]\s+)*pub struct (?:Plain|C(?=A))?(\w+) \{(.*?)\n\s*\}",
+                       text, re.S)
     return {name.lower(): fields((re.sub(r"\[(\w+); (\d+)\]", r"\1*\2", kind), each) for each, kind in
                                  re.findall(r"pub (\w+): (\[[^]]*\]|\w+),", body)) for name, body in found}
 

@@ -24,7 +24,7 @@ use run_results::RunError;
 use std::alloc::{AllocError, Global};
 use std::io::Read;
 use trace_reader::Trace;
-use worker_driver::{Driver, asked_policy_runs, config_of, driver_of};
+use worker_driver::{Driver, config_of, driver_of, policy_runs_by_options};
 
 // Bytes in memory, as a source that never fails.
 #[derive(Drop)]
@@ -69,7 +69,7 @@ pub fn litmus_report(
         Ok(test) => test,
         Err(error) => return Err(error),
     };
-    match asked_policy_runs(alloc, &test, options) {
+    match policy_runs_by_options(alloc, &test, options) {
         Ok(Some(runs)) => report_on(alloc, &test, &runs, options),
         Ok(None) => Err(RunError::BadConfig),
         Err(AllocError) => Err(RunError::NoMemory),

@@ -21,7 +21,7 @@ use run_results::{Done, RunError};
 use std::alloc::{AllocError, Global};
 use std::rt::Clock;
 use std::thread::Threads;
-use worker_driver::asked_runs;
+use worker_driver::runs_by_options;
 
 /// Reads a litmus test to the end of the source, runs it as the options say, and writes the report of the runs. Each
 /// end state in the report is an outcome of the sequential machine. If the source has more bytes than a litmus text
@@ -89,7 +89,7 @@ fn report_of<R: Threads + Clock + Sync>(
         Ok(test) => test,
         Err(error) => return Err(error),
     };
-    match asked_runs(rt, alloc, &test, options) {
+    match runs_by_options(rt, alloc, &test, options) {
         Ok(Some(runs)) => report_on(alloc, &test, &runs, options),
         Ok(None) => Err(RunError::BadConfig),
         Err(AllocError) => Err(RunError::NoMemory),

@@ -6,7 +6,7 @@ ghost use Rattle.schedules.specs.RoundSchedule.{step_action};
 ghost use Rattle.schedules.specs.Notes.{Did, at};
 
 use crate::log::{Log, is_evicted, is_held, is_no_room, step, step_delivery, try_core};
-use crate::look_ups::{tell, tell_advance};
+use crate::look_ups::{mark_advance_done, mark_operation_done};
 use crate::watcher::Watcher;
 use interleaving_core::{Event, History, System};
 use network::MsgNo;
@@ -25,7 +25,7 @@ pub(crate) fn make<P: Program, W: Watcher, K: History>(
         (at system.new programs.new log.new) }
 {
     let plain = step(log, system, event)?;
-    tell(system, programs, log, &plain);
+    mark_operation_done(system, programs, log, &plain);
     Ok(())
 }
 
@@ -46,7 +46,7 @@ pub(crate) fn attempt<P: Program, W: Watcher, K: History>(
         evict::<P, W, K>(system, log, core)?;
         return Ok(true);
     }
-    tell(system, programs, log, &plain);
+    mark_operation_done(system, programs, log, &plain);
     Ok(false)
 }
 
@@ -136,7 +136,7 @@ fn advance<P: Program, W: Watcher, K: History>(
         (at system.new programs.new log.new) }
 {
     let plain = step(log, system, &Event::Advance(core))?;
-    tell_advance(programs, log, core, &plain);
+    mark_advance_done(programs, log, core, &plain);
     Ok(())
 }
 

@@ -13,4 +13,5 @@ pub returns : goal.returns
 returns g c =
     let a = c.args in
     event_made g.P.Program.acts _ a.system.now a.programs.now a.log.now a.event.now _ c.step.new.system
-    c.tell.new.programs c.step.new.log c.tell.new.log c.in_ok-plain.ensures c.tell.ensures.done c.tell.ensures.told
+    c.mark_operation_done.new.programs c.step.new.log c.mark_operation_done.new.log c.in_ok-plain.ensures
+    c.mark_operation_done.ensures.done c.mark_operation_done.ensures.told

@@ -13,9 +13,9 @@ use network::MsgNo;
 use programs::program::Program;
 use programs::{End, Step};
 
-// An event that nothing follows.
+// Makes an event that nothing follows.
 #[inline(always)]
-pub(crate) fn make<P: Program, W: Watcher, K: History>(
+pub(crate) fn make_event<P: Program, W: Watcher, K: History>(
     system: &mut System<K>,
     programs: &mut [P],
     log: &mut Log<W>,
@@ -153,7 +153,7 @@ pub(crate) fn do_step<P: Program, W: Watcher, K: History>(
         (at system.new programs.new log.new) }
 {
     match *next {
-        Step::Op(op) => make(system, programs, log, &Event::Issue(core, op)),
+        Step::Op(op) => make_event(system, programs, log, &Event::Issue(core, op)),
         Step::Advance => advance(system, programs, log, core),
     }
 }

@@ -1,6 +1,6 @@
 use Rattle.std.proofs.lemmas.Result.{err_from_is_err_and}
 use Rattle.schedules.proofs.Events.{event_made, event_not_made}
-use Rattle.schedules.proofs.turn.make.Goals as goal
+use Rattle.schedules.proofs.turn.make_event.Goals as goal
 
 pub returns-in_err-plain : goal.returns-in_err-plain
 returns-in_err-plain g c =

@@ -7,7 +7,7 @@ ghost use Rattle.report.specs.Ends.{HasNoEnds, HasNoEndsInMemory, IsEndsReport};
 
 use crate::every_text::every_text;
 use crate::litmus::test_in;
-use crate::outputs::{Report, layout_of, put_out};
+use crate::outputs::{Report, layout_of, write_report};
 use crate::sources::read_text;
 use byte_streams::{Sink, Source};
 use run_options::EndsOptions;
@@ -50,7 +50,7 @@ pub fn run_ends<S: Source, K: Sink>(
     let done = Done {
         all_done: report.all_done,
     };
-    put_out(sink, &report.text, done)
+    write_report(sink, &report.text, done)
 }
 
 /// The list of the ends of the litmus test that a text is: those of the sequential machine, all of them and no other.

@@ -10,7 +10,7 @@ ghost use Rattle.report.specs.Bytes.{OfBytes};
 ghost use Rattle.report.specs.Litmus.{AreRuns, HasNoReport, HasNoReportInMemory, HasNoTestInMemory};
 ghost use Rattle.report.specs.Litmus.{IsLitmusReport, litmus_refusal};
 
-use crate::outputs::{Report, layout_of, put_out};
+use crate::outputs::{Report, layout_of, write_report};
 use crate::sources::read_text;
 use byte_streams::{Sink, Source};
 use litmus_reader::{Kind, LitmusError, Test, read};
@@ -59,7 +59,7 @@ pub fn run_litmus<R: Threads + Clock + Sync, S: Source, K: Sink>(
     let done = Done {
         all_done: report.all_done,
     };
-    put_out(sink, &report.text, done)
+    write_report(sink, &report.text, done)
 }
 
 /// The litmus test that these bytes are, or why they are none.

@@ -43,8 +43,8 @@ Tells old new before after number look = Asked old new before after number (λ m
     (new ≡ Some machine) × ((after, number) ≡ told before (look machine)))
 
 -- lines are written over the front of others, as far as there are any
-abbrev pub put_over : (lines old : List ℕ) → List ℕ
-put_over lines old = take (length old) lines ++ drop (length lines) old
+abbrev pub overwrite_front : (lines old : List ℕ) → List ℕ
+overwrite_front lines old = take (length old) lines ++ drop (length lines) old
 
 -- where there is a part of this number its lines, unless an allocation failed; nothing where there is none
 abbrev pub AreLines : {E : Type 0} → Option (Result (Vec ℕ Global) E) → (seat seats : ℕ) → List ℕ → Type 0
@@ -58,7 +58,7 @@ abbrev pub TellsFound : {E : Type 0} → Option (Result (Vec ℕ Global) E) → 
 TellsFound None before after number = (after ≡ before) × (number ≡ 18)
 TellsFound (Some (Err e)) before after number = (after ≡ before) × (number ≡ 3)
 TellsFound (Some (Ok lines)) before after number =
-    (after ≡ (put_over lines.items before.0, length lines.items)) × (number ≡ 0)
+    (after ≡ (overwrite_front lines.items before.0, length lines.items)) × (number ≡ 0)
 
 -- the machine stays; a part that isn't there is 18; of one that is there the lines are told, or an allocation failed
 abbrev pub TellsLines : (old new : Option Machine) → (before after : List ℕ × ℕ) → (number seat : ℕ) →
@@ -67,7 +67,7 @@ TellsLines old new before after number seat seats look =
     Asked old new before after number (λ machine. (new ≡ Some machine)
     × (((nat_lt seat (seats machine) ≡ false) × (after ≡ before) × (number ≡ 18))
     ⊎ ((nat_lt seat (seats machine) ≡ true)
-    × (after ≡ (put_over (look machine) before.0, length (look machine))) × (number ≡ 0))
+    × (after ≡ (overwrite_front (look machine) before.0, length (look machine))) × (number ≡ 0))
     ⊎ ((nat_lt seat (seats machine) ≡ true) × (after ≡ before) × (number ≡ 3))))
 
 -- one event, and its answer

@@ -28,7 +28,7 @@ NOT_IN_RUST = {"told", "lack", *OF_MACHINES}  # what history.rs does without
 NOT_IN_PYTHON = {"told", "word"}  # words go there as bytes
 HEADER, EXAMPLE = "crates/tardis_c/tardis.h", "examples/embed/history.rs"
 PARTS, REFUSALS = "crates/tardis_c/specs/SystemParts.antt", "crates/machine_table/specs/RefusalNumbers.antt"
-CONSTANTS = (("answer_kind", PARTS, "c_answer"), ("message_kind", PARTS, "said"), ("end", PARTS, "end_of"),
+CONSTANTS = (("answer_kind", PARTS, "c_answer"), ("message_kind", PARTS, "carried_by"), ("end", PARTS, "end_of"),
              ("refusal", REFUSALS, "number_of"))  # by enumeration: the definition that has its numbers
 OTHER_NAMES = {"NO_SUCH": "NOT_THERE", "NO_MEMORY": "MEMORY_REFUSED"}  # other constants of tardis.h have these names
 WORDS = {"answer": structures.ANSWERS, "refusal": structures.REFUSALS, "message": structures.MESSAGES,
@@ -240,7 +240,7 @@ PLANTS = (
     ("crates/held_machine/src/handle.rt", "    is_open: u64,\n", "    is_open: u64,\n    more: u64,\n",
      "struct tardis_system has"),
     (HEADER, "TARDIS_HELD = 7", "TARDIS_HELD = 17", "enum tardis_answer_kind isn't c_answer"),
-    (HEADER, "TARDIS_DRAM_ST = 12", "TARDIS_DRAM_STORE = 12", "enum tardis_message_kind isn't said"),
+    (HEADER, "TARDIS_DRAM_ST = 12", "TARDIS_DRAM_STORE = 12", "enum tardis_message_kind isn't carried_by"),
     (HEADER, ", TARDIS_DRAM = 2", "", "enum tardis_end isn't end_of"),
     (HEADER, "TARDIS_PINNED = 5", "TARDIS_PINNED = 6", "enum tardis_refusal isn't number_of"),
     (REFUSALS, "number_of Stopped = 9", "number_of Stopped = 10", "enum tardis_refusal isn't number_of"),

@@ -5,8 +5,8 @@ ghost use Rattle.tardis_c.specs.Answers.{CameTo, IsPut, report_number};
 use report::{Report, RunError};
 use run_results::error_line;
 
-/// Writes the report, or the line of the error, into the buffer if that has room for it, says how long it is, and answers
-/// its number.
+/// Writes the report, or the line of the error, into the buffer if that has room for it, says how long it is, and
+/// answers its number.
 pub(crate) fn write_result(
     came: &Result<Report, RunError>,
     buffer: &mut [u8],

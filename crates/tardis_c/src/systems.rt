@@ -18,7 +18,7 @@ use std::alloc::{AllocError, Global};
 use worker_driver::config_of;
 
 // A machine on the heap.
-fn made(alloc: Global, config: Config, memory: Memory) -> Result<Box<System>, AllocError>
+fn new_machine(alloc: Global, config: Config, memory: Memory) -> Result<Box<System>, AllocError>
     requires { is_good config ≡ true }
     ensures { IfOk result (λ system. system.value ≡ at_start config memory) }
 {
@@ -48,7 +48,7 @@ fn open(
     let Ok(memory) = memory_of(alloc, opening) else {
         return 3;
     };
-    match made(alloc, config, memory) {
+    match new_machine(alloc, config, memory) {
         Ok(system) => {
             put_back(machine, system);
             0

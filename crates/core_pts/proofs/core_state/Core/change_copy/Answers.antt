@@ -2,7 +2,7 @@ use Rattle.std.proofs.Common.{◌≡◌, is_some, sym, ap, true, ◌∙◌}
 use Rattle.private_cache.specs.CopyTable.{copy_of}
 use Rattle.core_pts.specs.OpenCopy.{has_open_copy}
 use Rattle.core_pts.proofs.OpenCopies.{open-changed}
-use Rattle.core_pts.proofs.core_state.Core.grant.Goals as goal
+use Rattle.core_pts.proofs.core_state.Core.change_copy.Goals as goal
 
 pub invariant_of-self : goal.invariant_of-self
 invariant_of-self c =

@@ -116,7 +116,7 @@ pub fn hear_stopped(table: &FlagTable, seat: &mut FlagSeat) -> u64
 
 /// Makes the next signaler's seat.
 #[tactic(auto, using(crate::proofs::Tells::splitting))]
-pub fn make(table: &FlagTable, first: &mut FlagSeat) -> FlagSeat
+pub fn make_seat(table: &FlagTable, first: &mut FlagSeat) -> FlagSeat
     requires table { Belongs first.old.table_id table.now.table_id table.now.key }
     requires more { (first.old.me.0.spent ≡ false) × (0 < first.old.me.0.made) ×
         (first.old.me.0.made < table.now.key) }
@@ -134,7 +134,7 @@ pub fn make(table: &FlagTable, first: &mut FlagSeat) -> FlagSeat
 
 /// Takes in what another seat knows, which is then given up.
 #[tactic(auto, using(crate::proofs::Tells::joining))]
-pub fn meet(table: &FlagTable, seat: &mut FlagSeat, other: FlagSeat)
+pub fn join_view(table: &FlagTable, seat: &mut FlagSeat, other: FlagSeat)
     requires table { Belongs seat.old.table_id table.now.table_id table.now.key ×
         (other.table_id ≡ table.now.table_id) }
     requires live { (seat.old.me.0.spent ≡ false) × (other.me.0.spent ≡ false) ×

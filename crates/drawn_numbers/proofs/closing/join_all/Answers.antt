@@ -35,7 +35,7 @@ meet-requires-clause-table c =
 pub loop-drawer-preserved : goal.loop-drawer-preserved
 loop-drawer-preserved c =
     let i = c.loop-drawer.invariant in
-    let m = c.meet.ensures in
+    let m = c.join_view.ensures in
     let left = c.leave-other.ensures in
     let v = c.args.seat.now.me.0 in
     let own = c.args.seat.now.me.1 in

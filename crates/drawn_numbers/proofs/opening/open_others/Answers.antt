@@ -24,7 +24,7 @@ make-seat-requires-clause-more c =
 pub loop-number-preserved : goal.loop-number-preserved
 loop-number-preserved c =
     let i = c.loop-number.invariant in
-    let made = c.make-seat.ensures in
+    let made = c.make_seat-seat.ensures in
     let m = c.args.numbers.now in
     let d : Drawer = c.new_drawer.result in
     let ds : List Drawer = c.loop-number.others.items in
@@ -33,7 +33,7 @@ loop-number-preserved c =
     let long : length c.push.new.self.items ≡ length ds + 1 = ap length items ∙ length-append ds (d ∷ []) in
     let n : ℕ = c.loop-number.number in
     let seat : IsNewDrawer m n d =
-    new_drawer m n d c.make-seat.result c.loop-number-test.true (made.table.2 ∙ i.0.0) new.0 new.1 new.2 in (
+    new_drawer m n d c.make_seat-seat.result c.loop-number-test.true (made.table.2 ∙ i.0.0) new.0 new.1 new.2 in (
       (made.table.0 ∙ i.0.0, made.made.0 ∙ ap (λ y. (one_more y.0, y.1)) i.0.1),
       omega arith,
       omega arith,

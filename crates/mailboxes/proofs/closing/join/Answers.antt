@@ -30,7 +30,7 @@ meet-requires-clause-table g c =
 pub loop-port-preserved : goal.loop-port-preserved
 loop-port-preserved g c =
     let i = c.loop-port.invariant in
-    let m = c.meet.ensures in
+    let m = c.join_view.ensures in
     let left = c.leave-other.ensures in
     let v = c.args.seat.now.me.0 in
     let own = c.args.seat.now.me.1 in

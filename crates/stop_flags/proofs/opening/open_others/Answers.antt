@@ -17,7 +17,7 @@ make-seat-requires-clause-more c = search rules
 pub loop-number-preserved : goal.loop-number-preserved
 loop-number-preserved c =
     let i = c.loop-number.invariant in
-    let made = c.make-seat.ensures in
+    let made = c.make_seat-seat.ensures in
     let m = c.args.signals.now in
     let s : Signaler = c.new_signaler.result in
     let ss : List Signaler = c.loop-number.others.items in
@@ -30,6 +30,6 @@ loop-number-preserved c =
       omega arith,
       omega arith,
       more_at (IsNewSignaler m) 1 ss c.push.new.self.items s items i.3
-          (new_signaler m (1 + length ss) s c.make-seat.result (made.table.2 ∙ i.0.0) workers
+          (new_signaler m (1 + length ss) s c.make_seat-seat.result (made.table.2 ∙ i.0.0) workers
           (ap (λ y. y.0.number) made.made.1 ∙ v ∙ omega arith) new.0 new.1),
     )

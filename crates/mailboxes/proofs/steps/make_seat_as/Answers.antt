@@ -1,5 +1,5 @@
 use Rattle.std.proofs.Common.{arith}
-use Rattle.mailboxes.proofs.steps.make_as.Goals as goal
+use Rattle.mailboxes.proofs.steps.make_seat_as.Goals as goal
 
 pub split_seat-requires : goal.split_seat-requires
 split_seat-requires g c =

@@ -1,6 +1,6 @@
 use Rattle.std.proofs.Common.{arith}
 use Rattle.drawn_numbers.proofs.Draws.{splitting}
-use Rattle.drawn_numbers.proofs.steps.make.Goals as goal
+use Rattle.drawn_numbers.proofs.steps.make_seat.Goals as goal
 
 pub split_seat-requires : goal.split_seat-requires
 split_seat-requires c =

@@ -6,14 +6,14 @@ use Rattle.drawn_numbers.specs.Drawers.{IsNewDrawer}
 use Rattle.drawn_numbers.proofs.DrawerLists.{new_drawer, more_drawers}
 use Rattle.drawn_numbers.proofs.opening.open_others.Goals as goal
 
-pub make-seat-requires-clause-table : goal.make-seat-requires-clause-table
-make-seat-requires-clause-table c =
+pub make_seat-seat-requires-clause-table : goal.make_seat-seat-requires-clause-table
+make_seat-seat-requires-clause-table c =
     let m = c.args.numbers.now in
     let i = c.loop-number.invariant in
     (i.0.0, m.sized.1, m.sized.2, subst (λ k. k ≤ 16) (sym m.keyed) m.sized.3)
 
-pub make-seat-requires-clause-more : goal.make-seat-requires-clause-more
-make-seat-requires-clause-more c =
+pub make_seat-seat-requires-clause-more : goal.make_seat-seat-requires-clause-more
+make_seat-seat-requires-clause-more c =
     let m = c.args.numbers.now in
     let i = c.loop-number.invariant in
     let v = ap (λ y. y.0.made) i.0.1 in

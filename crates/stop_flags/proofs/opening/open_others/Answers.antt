@@ -8,11 +8,11 @@ use Rattle.seat_views.proofs.Lemmas.{more_at}
 use Rattle.stop_flags.specs.Signalers.{IsNewSignaler}
 use Rattle.stop_flags.proofs.opening.open_others.Goals as goal
 
-pub make-seat-requires-clause-table : goal.make-seat-requires-clause-table
-make-seat-requires-clause-table c = search rules
+pub make_seat-seat-requires-clause-table : goal.make_seat-seat-requires-clause-table
+make_seat-seat-requires-clause-table c = search rules
 
-pub make-seat-requires-clause-more : goal.make-seat-requires-clause-more
-make-seat-requires-clause-more c = search rules
+pub make_seat-seat-requires-clause-more : goal.make_seat-seat-requires-clause-more
+make_seat-seat-requires-clause-more c = search rules
 
 pub loop-number-preserved : goal.loop-number-preserved
 loop-number-preserved c =

@@ -1,5 +1,5 @@
 use Rattle.line_arena.proofs.Shows.{lacks_from}
-use Rattle.line_arena.proofs.chains.Chains.lift.Goals as goal
+use Rattle.line_arena.proofs.chains.Chains.detach.Goals as goal
 
 pub returns-clause-lacks : goal.returns-clause-lacks
 returns-clause-lacks g c =

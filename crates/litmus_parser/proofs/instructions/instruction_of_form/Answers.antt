@@ -3,7 +3,7 @@ use Rattle.litmus_parser.specs.Names.{address_of}
 use Rattle.litmus_parser.specs.Verdicts.{kept, value_in, base_in, meaning}
 use Rattle.litmus_parser.specs.declared.syntax.Instruction.TheVariants.{Swap}
 use Rattle.litmus_parser.proofs.TableSteps.{fourth-fails}
-use Rattle.litmus_parser.proofs.instructions.judge.Goals as goal
+use Rattle.litmus_parser.proofs.instructions.instruction_of_form.Goals as goal
 
 pub returns-in_err-location-in-Swap : goal.returns-in_err-location-in-Swap
 unfolding meaning

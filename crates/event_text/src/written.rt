@@ -1,7 +1,7 @@
 //! Lines with the answers that came, written after them.
 
 use crate::replies::Reply;
-use crate::texts::{behind, said_in};
+use crate::texts::{behind, without_comment};
 use crate::turned::{is_wanted, parted, put_turned};
 use std::alloc::{AllocError, Global};
 
@@ -69,7 +69,7 @@ impl Written {
             told.add(line);
             return Ok(());
         }
-        let said = said_in(line);
+        let said = without_comment(line);
         match said.split_once(':') {
             Some((call, _)) => told.add(call),
             None => {

@@ -34,7 +34,7 @@ pub fn core_turn<P: Program>(
         seat.old program.old result seat.new program.new }
 {
     let was_stopped = seat.is_stopped();
-    let done = do_next(machine, seat, program);
+    let done = do_next_step(machine, seat, program);
     let moved = turn(machine, seat);
     told_of(was_stopped, seat.is_stopped(), done, moved)
 }
@@ -47,7 +47,7 @@ pub fn is_over<P: Program>(seat: &CoreSeat, program: &P) -> bool
 }
 
 // Does the program's next step, or attempts the operation that is open. Whether it was done, or why it was refused.
-fn do_next<P: Program>(
+fn do_next_step<P: Program>(
     machine: &Machine,
     seat: &mut CoreSeat,
     program: &mut P,

@@ -11,7 +11,7 @@ ghost use Rattle.report_lines.specs.declared.layout.Layout.TheVariants.{Lines};
 ghost use Rattle.worker_driver.specs.SetUp.{FollowsPolicy};
 
 use crate::checks::verdict_on;
-use crate::litmus::{report_on, test_in};
+use crate::litmus::{litmus_test_of, report_on};
 use crate::openings::opening_of;
 use crate::outputs::Report;
 use crate::reports::report_by_policy;
@@ -65,7 +65,7 @@ pub fn litmus_report(
         IsLitmusReport options.now text.now report.all_done report.text.items) }
     ensures refused { IfErr result (HasNoReportInMemory options.now text.now) }
 {
-    let test = match test_in(alloc, text) {
+    let test = match litmus_test_of(alloc, text) {
         Ok(test) => test,
         Err(error) => return Err(error),
     };

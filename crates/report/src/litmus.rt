@@ -63,7 +63,7 @@ pub fn run_litmus<R: Threads + Clock + Sync, S: Source, K: Sink>(
 }
 
 /// The litmus test that these bytes are, or why they are none.
-pub(crate) fn test_in(alloc: Global, bytes: &[u8]) -> Result<Test, RunError>
+pub(crate) fn litmus_test_of(alloc: Global, bytes: &[u8]) -> Result<Test, RunError>
     ensures found { IfOk result (λ test. IsTest bytes.now (test_of test)) }
     ensures few { IfOk result (λ test. (test_of test).threads ≤ 16) }
     ensures refused { IfErr result (HasNoTestInMemory bytes.now) }
@@ -85,7 +85,7 @@ fn report_of<R: Threads + Clock + Sync>(
         IsLitmusReport options.now bytes.now report.all_done report.text.items) }
     ensures refused { IfErr result (HasNoReportInMemory options.now bytes.now) }
 {
-    let test = match test_in(alloc, bytes) {
+    let test = match litmus_test_of(alloc, bytes) {
         Ok(test) => test,
         Err(error) => return Err(error),
     };

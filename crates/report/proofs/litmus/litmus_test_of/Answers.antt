@@ -1,7 +1,7 @@
 use Rattle.std.proofs.Common.{sym, subst}
 use Rattle.report.specs.Litmus.{HasNoTestInMemory}
 use Rattle.report.proofs.Refused.{refused}
-use Rattle.report.proofs.litmus.test_in.Goals as goal
+use Rattle.report.proofs.litmus.litmus_test_of.Goals as goal
 
 pub returns-in-Err-clause-refused : goal.returns-in-Err-clause-refused
 returns-in-Err-clause-refused c =

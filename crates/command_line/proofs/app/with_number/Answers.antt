@@ -1,6 +1,6 @@
 use Rattle.command_line.specs.Additions.{IsArg}
 use Rattle.command_line.specs.App.{any_number, number_rule}
-use Rattle.command_line.proofs.app.with_any.Goals as goal
+use Rattle.command_line.proofs.app.with_number.Goals as goal
 
 pub returns : goal.returns
 returns c =

@@ -102,7 +102,12 @@ const TRACE_FILE: &str = "The file with the text of the trace";
 const RECORDS_FILE: &str = "The file with the text of the records";
 
 /// An option with a value, without a default.
-fn bare<'a>(alloc: Global, name: &'a str, parser: ValueParser<'a>, help: &'a str) -> Arg<'a>
+fn option_without_default<'a>(
+    alloc: Global,
+    name: &'a str,
+    parser: ValueParser<'a>,
+    help: &'a str,
+) -> Arg<'a>
     ensures { IsArg result (bare_rule name.entry.now parser.entry) }
 {
     Arg::new(alloc, name)
@@ -122,7 +127,7 @@ fn option<'a>(
 ) -> Arg<'a>
     ensures { IsArg result (number_rule name.entry.now default.entry.now parser.entry) }
 {
-    bare(alloc, name, parser, help).default_value(default)
+    option_without_default(alloc, name, parser, help).default_value(default)
 }
 
 /// The words `round`, `seed` and `threads`.
@@ -280,7 +285,7 @@ fn with_count_options<'a>(
     let every = value_parser!(u64).range(1..);
     let one = with(command, flag(alloc, "records", RECORDS));
     let two = with(one, flag(alloc, "counts", COUNTS));
-    let three = with(two, bare(alloc, "every", every, EVERY));
+    let three = with(two, option_without_default(alloc, "every", every, EVERY));
     with(three, flag(alloc, "json", TRACE_JSON))
 }
 
@@ -294,9 +299,9 @@ fn with_stream_options<'a>(
     let cores = value_parser!(u64).range(1..65);
     let millions = value_parser!(u64).range(1..4294967296);
     let one = with(command, flag(alloc, "stream", STREAM));
-    let two = with(one, bare(alloc, "cores", cores, CORES));
+    let two = with(one, option_without_default(alloc, "cores", cores, CORES));
     let three = with(two, flag(alloc, "no-words", NO_WORDS));
-    with(three, bare(alloc, "progress", millions, PROGRESS))
+    with(three, option_without_default(alloc, "progress", millions, PROGRESS))
 }
 
 /// The command `trace`.

@@ -3,7 +3,7 @@ use Rattle.clap.specs.Words.{Rule, rule_of}
 use Rattle.clap.specs.declared.builder.action.ArgAction.TheVariants.{Set}
 use Rattle.clap.specs.declared.builder.arg.Arg.{Arg}
 use Rattle.clap.specs.declared.builder.value_parser.ValueParser.{ValueParser}
-use Rattle.command_line.proofs.app.bare.Goals as goal
+use Rattle.command_line.proofs.app.option_without_default.Goals as goal
 
 pub returns : goal.returns
 returns c =

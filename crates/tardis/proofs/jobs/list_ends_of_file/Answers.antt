@@ -1,7 +1,7 @@
 use Rattle.tardis.specs.Answers.{devices}
 use Rattle.report.specs.Ends.{HasNoEnds, IsEndsReport}
 use Rattle.tardis.proofs.Came.{came_of}
-use Rattle.tardis.proofs.jobs.ends_on.Goals as goal
+use Rattle.tardis.proofs.jobs.list_ends_of_file.Goals as goal
 
 pub returns : goal.returns
 returns g c = (

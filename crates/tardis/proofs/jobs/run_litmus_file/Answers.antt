@@ -1,7 +1,7 @@
 use Rattle.tardis.specs.Answers.{devices}
 use Rattle.report.specs.Litmus.{HasNoReport, IsLitmusReport}
 use Rattle.tardis.proofs.Came.{came_of}
-use Rattle.tardis.proofs.jobs.litmus_on.Goals as goal
+use Rattle.tardis.proofs.jobs.run_litmus_file.Goals as goal
 
 pub returns : goal.returns
 returns g c = (

@@ -1,5 +1,5 @@
 use Rattle.std.proofs.Common.{arith}
-use Rattle.mailboxes.proofs.changes.stand.Goals as goal
+use Rattle.mailboxes.proofs.changes.store_hold.Goals as goal
 
 pub fetch_add-requires : goal.fetch_add-requires
 fetch_add-requires g c =

@@ -6,7 +6,7 @@ use Rattle.physiological_order.proofs.PickedRecords.{no_stamp, picked-one, picke
 use Rattle.physiological_order.proofs.WalkSteps.{next_from, order_with, values-last, values-push, received_same}
 use Rattle.physiological_order.proofs.WalkSteps.{received_other, Counted-push, left_by, left_by-push}
 use Rattle.physiological_order.proofs.ReplaySteps.{flat-words_after}
-use Rattle.physiological_order.proofs.walk.walk.Goals as goal
+use Rattle.physiological_order.proofs.walk.arranged_verdict.Goals as goal
 
 pub returns-then-not-is_next : goal.returns-then-not-is_next
 returns-then-not-is_next c =

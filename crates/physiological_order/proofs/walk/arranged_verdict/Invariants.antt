@@ -3,7 +3,7 @@ use Rattle.physiological_order.specs.Order.{flat, KeepsProgramOrder, ReceivesAsR
 use Rattle.physiological_order.specs.Faults.{issued_by}
 use Rattle.physiological_order.specs.Picking.{picked}
 use Rattle.physiological_order.proofs.WalkSteps.{left_by, Counted}
-use Rattle.physiological_order.proofs.walk.walk.Given as goal
+use Rattle.physiological_order.proofs.walk.arranged_verdict.Given as goal
 
 abbrev pub invariant-loop-stamp : goal.invariant-loop-stamp
 invariant-loop-stamp l = record {

@@ -77,7 +77,7 @@ impl StepStream {
                 kind,
             }),
             Ok((form, told)) => {
-                self.block.pass(length);
+                self.block.remove_line(length);
                 self.number += 1;
                 self.form = form;
                 self.held = told;
@@ -87,7 +87,7 @@ impl StepStream {
     }
 
     /// Reads on until the next step is held: whether there is one. What is to come stays as it is.
-    pub(crate) fn hold<S: Source>(&mut self, source: &mut S) -> Result<bool, TraceError>
+    pub(crate) fn hold_next<S: Source>(&mut self, source: &mut S) -> Result<bool, TraceError>
         ensures kept { Yields (coming self.old (S.remaining source.old))
             (coming self.new (S.remaining source.new)) [] }
         ensures held { IfOk result (λ held. held ≡ is_some self.new.held) }
@@ -117,7 +117,7 @@ impl StepStream {
     }
 
     /// The step that is held, which is held no longer.
-    pub(crate) fn let_go(&mut self) -> Option<(u32, Step)>
+    pub(crate) fn release_step(&mut self) -> Option<(u32, Step)>
         ensures told { (bytes : Option (List ℕ)) →
             Yields (coming self.old bytes) (coming self.new bytes)
             (numbered (lines_taken self.new) result) }
@@ -153,9 +153,9 @@ impl StepStream {
         ensures fault { IfErr result (Interrupts (S.failures source.old) (S.failures source.new)
             (coming self.old (S.remaining source.old))) }
     {
-        if !self.hold(source)? {
+        if !self.hold_next(source)? {
             return Ok(None);
         }
-        Ok(self.let_go())
+        Ok(self.release_step())
     }
 }

@@ -59,7 +59,7 @@ returns-in-Ok-clause-kept g c =
     let told : said_at s.form (fields_of c.front.result.now) ≡ Ok (c.in-Ok.form, c.in-Ok.told) =
     cc (c.form_and_step.ensures.told, c.in-Ok.is) in
     let t : StepStream = record {
-      block = c.pass.new.self;
+      block = c.remove_line.new.self;
       number = s.number + 1;
       form = c.in-Ok.form;
       held = c.in-Ok.told;
@@ -69,4 +69,4 @@ returns-in-Ok-clause-kept g c =
     in
     yields-both s t [] _ _
     (stream-told s c.requires _ _ (ahead c.next_line.new.block) l.field-0 l.ensures.next c.in-Some.length c.in-Some.is
-    short c.front.result.now c.front.ensures c.in-Ok.form c.in-Ok.told _ c.pass.ensures told)
+    short c.front.result.now c.front.ensures c.in-Ok.form c.in-Ok.told _ c.remove_line.ensures told)

@@ -1,7 +1,7 @@
 use Rattle.std.proofs.Common.{◌-◌, ◌≡◌, ◌≤◌, ℕ, max, length}
 use Rattle.std.specs.Prelude.{vec_capacity}
 use Rattle.trace_reader.specs.Steps.{lane}
-use Rattle.trace_reader.proofs.traces.reach.Given as goal
+use Rattle.trace_reader.proofs.traces.extend_lanes.Given as goal
 
 -- lanes without steps were added
 abbrev pub invariant-loop-alloc : goal.invariant-loop-alloc

@@ -1,7 +1,7 @@
 use Rattle.std.proofs.Common.{ℕ, List, [], ◌∷◌, ap, ◌∙◌, arith, length, length-append}
 use Rattle.sequential_machine.specs.Turns.{with_word_in}
 use Rattle.sequential_ends.proofs.WordLists.{zero_behind}
-use Rattle.sequential_ends.proofs.words.reach.Goals as goal
+use Rattle.sequential_ends.proofs.words.extend_words.Goals as goal
 
 pub loop-words-preserved : goal.loop-words-preserved
 loop-words-preserved c =

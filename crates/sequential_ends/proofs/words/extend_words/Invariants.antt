@@ -1,6 +1,6 @@
 use Rattle.std.proofs.Common.{◌≡◌, ◌≤◌, ◌-◌, ℕ, length}
 use Rattle.sequential_machine.specs.Turns.{with_word_in}
-use Rattle.sequential_ends.proofs.words.reach.Given as goal
+use Rattle.sequential_ends.proofs.words.extend_words.Given as goal
 
 abbrev pub invariant-loop-words : goal.invariant-loop-words
 invariant-loop-words l =

@@ -2,7 +2,7 @@ use Rattle.std.proofs.Common.{ap, ◌∙◌}
 use Rattle.std.specs.FinMap.{insert}
 use Rattle.event_counts.specs.Losses.{key_of}
 use Rattle.event_counts.proofs.HashedMaps.{changed_hashed}
-use Rattle.event_counts.proofs.lost_copies.LostCopies.lose.Goals as goal
+use Rattle.event_counts.proofs.lost_copies.LostCopies.note_loss.Goals as goal
 
 pub returns : goal.returns
 returns c =

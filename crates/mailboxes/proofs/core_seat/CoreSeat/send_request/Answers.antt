@@ -5,7 +5,7 @@ use Rattle.mailboxes.specs.declared.sending.SendingCore.{SendingCore}
 use Rattle.mailboxes.specs.Stored.{stored_core}
 use Rattle.mailboxes.proofs.CoreFacts.{ask_moves, asked_linked, part_of}
 use Rattle.mailboxes.proofs.StoredSeats.{box_stands, core_stands}
-use Rattle.mailboxes.proofs.core_seat.CoreSeat.ask.Goals as goal
+use Rattle.mailboxes.proofs.core_seat.CoreSeat.send_request.Goals as goal
 
 pub change_core-requires-clause-change : goal.change_core-requires-clause-change
 change_core-requires-clause-change c =

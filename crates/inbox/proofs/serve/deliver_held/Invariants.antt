@@ -2,7 +2,7 @@ use Rattle.std.proofs.Common.{◌≡◌, ◌||◌, drop}
 use Rattle.line_arena.specs.CellLists.{first_cell}
 use Rattle.inbox.specs.Queues.{values_of}
 use Rattle.inbox.specs.Serving.{held_from, served_of, is_refused}
-use Rattle.inbox.proofs.serve.ask_held.Given as goal
+use Rattle.inbox.proofs.serve.deliver_held.Given as goal
 
 abbrev pub invariant-loop : goal.invariant-loop
 invariant-loop g l =

@@ -132,14 +132,14 @@ fn try_open<P: Program>(
             program.done(done.received);
             Ok(true)
         }
-        Err(refusal) => refused(machine, seat, refusal),
+        Err(refusal) => handle_refusal(machine, seat, refusal),
     }
 }
 
 // For a refusal of an attempt: a copy goes if there is no place for the line, and then no step is done. Any other is
 // told.
 #[inline(never)]
-fn refused(machine: &Machine, seat: &mut CoreSeat, refusal: Refusal) -> Result<bool, Refusal>
+fn handle_refusal(machine: &Machine, seat: &mut CoreSeat, refusal: Refusal) -> Result<bool, Refusal>
     requires { IsCoreSeat machine.now seat.old }
     ensures seat { IsCoreSeat machine.now seat.new }
     ensures work { SameWork seat.old seat.new }

@@ -74,7 +74,7 @@ impl Join<Known> for Meets {
 }
 
 /// Adds 1 to the word of the finished programs.
-pub fn tell_finished(table: &FlagTable, seat: &mut FlagSeat)
+pub fn signal_finished(table: &FlagTable, seat: &mut FlagSeat)
     requires table { Belongs seat.old.table_id table.now.table_id table.now.key }
     requires live { seat.old.me.0.spent ≡ false }
     requires few { seat.old.me.0.mine.said.finished < 4294967296 }
@@ -85,7 +85,7 @@ pub fn tell_finished(table: &FlagTable, seat: &mut FlagSeat)
 }
 
 /// Makes the word of the stop 1, whether it is so already or not.
-pub fn tell_stopped(table: &FlagTable, seat: &mut FlagSeat)
+pub fn signal_stopped(table: &FlagTable, seat: &mut FlagSeat)
     requires table { Belongs seat.old.table_id table.now.table_id table.now.key }
     requires live { seat.old.me.0.spent ≡ false }
     ensures table { (seat.new.table_id ≡ seat.old.table_id) × (seat.new.id ≡ seat.old.id) }
@@ -95,7 +95,7 @@ pub fn tell_stopped(table: &FlagTable, seat: &mut FlagSeat)
 }
 
 /// Reads the word of the finished programs.
-pub fn hear_finished(table: &FlagTable, seat: &mut FlagSeat) -> u64
+pub fn read_finished(table: &FlagTable, seat: &mut FlagSeat) -> u64
     requires table { Belongs seat.old.table_id table.now.table_id table.now.key }
     requires live { seat.old.me.0.spent ≡ false }
     ensures table { (seat.new.table_id ≡ seat.old.table_id) × (seat.new.id ≡ seat.old.id) }
@@ -105,7 +105,7 @@ pub fn hear_finished(table: &FlagTable, seat: &mut FlagSeat) -> u64
 }
 
 /// Reads the word of the stop.
-pub fn hear_stopped(table: &FlagTable, seat: &mut FlagSeat) -> u64
+pub fn read_stopped(table: &FlagTable, seat: &mut FlagSeat) -> u64
     requires table { Belongs seat.old.table_id table.now.table_id table.now.key }
     requires live { seat.old.me.0.spent ≡ false }
     ensures table { (seat.new.table_id ≡ seat.old.table_id) × (seat.new.id ≡ seat.old.id) }

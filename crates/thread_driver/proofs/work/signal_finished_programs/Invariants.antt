@@ -1,6 +1,6 @@
 use Rattle.std.proofs.Common.{◌≡◌}
 use Rattle.stop_flags.specs.Signalers.{IsSignalerOf, last_look, number_of}
-use Rattle.thread_driver.proofs.work.tell.Given as goal
+use Rattle.thread_driver.proofs.work.signal_finished_programs.Given as goal
 
 abbrev pub invariant-loop : goal.invariant-loop
 invariant-loop g l = record {

@@ -3,7 +3,7 @@ use Rattle.std.specs.List.{zip}
 use Rattle.stop_flags.specs.declared.words.Said.{Said}
 use Rattle.thread_driver.proofs.Counted.{over_few}
 use Rattle.thread_driver.proofs.Pairs.{pairs_few}
-use Rattle.thread_driver.proofs.work.tell.Goals as goal
+use Rattle.thread_driver.proofs.work.signal_finished_programs.Goals as goal
 
 pub loop-preserved : goal.loop-preserved
 loop-preserved g c =

@@ -29,7 +29,7 @@ NOT_IN_RUST = {"told", "lack", *OF_MACHINES}  # what history.rs does without
 NOT_IN_PYTHON = {"told", "word"}  # words go there as bytes
 HEADER, EXAMPLE = "crates/tardis_c/tardis.h", "examples/embed/history.rs"
 PARTS, REFUSALS = "crates/tardis_c/specs/SystemParts.antt", "crates/machine_table/specs/RefusalNumbers.antt"
-CONSTANTS = (("answer_kind", PARTS, "answer_of"), ("message_kind", PARTS, "said"), ("end", PARTS, "end_of"),
+CONSTANTS = (("answer_kind", PARTS, "c_answer"), ("message_kind", PARTS, "carried_by"), ("end", PARTS, "end_of"),
              ("refusal", REFUSALS, "number_of"))  # by enumeration: the definition that has its numbers
 OTHER_NAMES = {"NO_SUCH": "NOT_THERE", "NO_MEMORY": "MEMORY_REFUSED"}  # other constants of tardis.h have these names
 WORDS = {"answer": structures.ANSWERS, "refusal": structures.REFUSALS, "message": structures.MESSAGES,
@@ -61,7 +61,8 @@ def of_c(text):
 
 def of_rust(text):
     """The structures that sources in Rattle or Rust lay out as C does, by their names."""
-    found = re.findall(r"#\[repr\(C\)\]\s+(?:#\[[^\n]*\]\s+)*pub struct (?:Plain)?(\w+) \{(.*?)\n\s*\}", text, re.S)
+    found = re.findall(r"#\[repr\(C\)\]\s+(?:#\[[^\n]*\]\s+)*pub struct (?:Plain|C(?=A))?(\w+) \{(.*?)\n\s*\}",
+                       text, re.S)
     return {name.lower(): fields((re.sub(r"\[(\w+); (\d+)\]", r"\1*\2", kind), each) for each, kind in
                                  re.findall(r"pub (\w+): (\[[^]]*\]|\w+),", body)) for name, body in found}
 
@@ -84,7 +85,7 @@ def taken(kind):
     """The types in C of what a parameter in Rattle hands over; none of an allocator."""
     if kind == "Global":
         return []
-    whole = re.fullmatch(r"(&mut |&)?(\[)?(?:Plain)?(\w+)\]?", kind)
+    whole = re.fullmatch(r"(&mut |&)?(\[)?(?:Plain|C(?=A))?(\w+)\]?", kind)
     const, name = "" if whole[1] == "&mut " else "const ", PLAIN.get(whole[3], f"struct tardis_{whole[3].lower()}")
     if whole[1] is None:
         return [name]
@@ -251,8 +252,8 @@ PLANTS = (
     (HEADER, "    uint64_t is_open;\n", "    uint64_t is_open;\n    uint64_t more;\n", "struct tardis_system has"),
     ("crates/held_machine/src/handle.rt", "    is_open: u64,\n", "    is_open: u64,\n    more: u64,\n",
      "struct tardis_system has"),
-    (HEADER, "TARDIS_HELD = 7", "TARDIS_HELD = 17", "enum tardis_answer_kind isn't answer_of"),
-    (HEADER, "TARDIS_DRAM_ST = 12", "TARDIS_DRAM_STORE = 12", "enum tardis_message_kind isn't said"),
+    (HEADER, "TARDIS_HELD = 7", "TARDIS_HELD = 17", "enum tardis_answer_kind isn't c_answer"),
+    (HEADER, "TARDIS_DRAM_ST = 12", "TARDIS_DRAM_STORE = 12", "enum tardis_message_kind isn't carried_by"),
     (HEADER, ", TARDIS_DRAM = 2", "", "enum tardis_end isn't end_of"),
     (HEADER, "TARDIS_PINNED = 5", "TARDIS_PINNED = 6", "enum tardis_refusal isn't number_of"),
     (REFUSALS, "number_of Stopped = 9", "number_of Stopped = 10", "enum tardis_refusal isn't number_of"),

@@ -93,19 +93,19 @@ IsSchedule rows name schedule = (first_of name rows ≡ Some (codes "seed") → 
     → schedule ≡ Round)
 
 -- rounds and threads can be fair, and draws can't
-abbrev pub fairly : Bool → Schedule → Option Schedule
-fairly false schedule = Some schedule
-fairly true Round = Some FairRound
-fairly true FairRound = Some FairRound
-fairly true Seed = None
-fairly true Threads = Some FairThreads
-fairly true FairThreads = Some FairThreads
+abbrev pub fair_schedule : Bool → Schedule → Option Schedule
+fair_schedule false schedule = Some schedule
+fair_schedule true Round = Some FairRound
+fair_schedule true FairRound = Some FairRound
+fair_schedule true Seed = None
+fair_schedule true Threads = Some FairThreads
+fair_schedule true FairThreads = Some FairThreads
 
 -- the order of events is that of the schedule that the words name, made fair if they ask for it; none if it can't be
 abbrev pub IsOrder : List Row → Option Schedule → Type 0
 IsOrder rows order =
     (named : Schedule) × IsSchedule rows (codes "schedule") named
-    × (fair : Bool) × IsFlag rows (codes "fair") fair × (order ≡ fairly fair named)
+    × (fair : Bool) × IsFlag rows (codes "fair") fair × (order ≡ fair_schedule fair named)
 
 -- how a run goes
 abbrev pub TellsRun : List Row → RunOptions → Type 0

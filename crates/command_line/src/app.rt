@@ -102,7 +102,12 @@ const TRACE_FILE: &str = "The file with the text of the trace";
 const RECORDS_FILE: &str = "The file with the text of the records";
 
 /// An option with a value, without a default.
-fn bare<'a>(alloc: Global, name: &'a str, parser: ValueParser<'a>, help: &'a str) -> Arg<'a>
+fn option_without_default<'a>(
+    alloc: Global,
+    name: &'a str,
+    parser: ValueParser<'a>,
+    help: &'a str,
+) -> Arg<'a>
     ensures { IsArg result (bare_rule name.entry.now parser.entry) }
 {
     Arg::new(alloc, name)
@@ -122,7 +127,7 @@ fn option<'a>(
 ) -> Arg<'a>
     ensures { IsArg result (number_rule name.entry.now default.entry.now parser.entry) }
 {
-    bare(alloc, name, parser, help).default_value(default)
+    option_without_default(alloc, name, parser, help).default_value(default)
 }
 
 /// The words `round`, `seed` and `threads`.
@@ -173,7 +178,7 @@ fn with<'a>(
 }
 
 /// A command with one more option, with a number of 64 bits.
-fn with_any<'a>(
+fn with_number<'a>(
     command: Result<Command<'a>, AllocError>,
     alloc: Global,
     name: &'a str,
@@ -199,7 +204,7 @@ fn with_run_options<'a>(
     let limit = value_parser!(u64).range(1..4294967296);
     let workers = value_parser!(u64).range(1..17);
     let one = with(command, option(alloc, "schedule", "round", names, SCHEDULE));
-    let two = with_any(one, alloc, "seed", "0", SEED);
+    let two = with_number(one, alloc, "seed", "0", SEED);
     let three = with(two, option(alloc, "limit", "100000", limit, LIMIT));
     let four = with(three, option(alloc, "workers", "1", workers, WORKERS));
     let five = with(four, flag(alloc, "fair", FAIR));
@@ -213,15 +218,15 @@ fn with_machine_options<'a>(
 ) -> Result<Command<'a>, AllocError>
     ensures { Adds command.entry (λ app. with_rules app machine_rules) result }
 {
-    let one = with_any(command, alloc, "lease", "10", LEASE);
-    let two = with_any(one, alloc, "time", "0", TIME);
-    let three = with_any(two, alloc, "banks", "1", BANKS);
-    let four = with_any(three, alloc, "sets", "64", SETS);
-    let five = with_any(four, alloc, "ways", "4", WAYS);
-    let six = with_any(five, alloc, "bank-sets", "256", BANK_SETS);
-    let seven = with_any(six, alloc, "bank-ways", "8", BANK_WAYS);
-    let eight = with_any(seven, alloc, "line-words", "1", LINE_WORDS);
-    with_any(eight, alloc, "messages", "4096", MESSAGES)
+    let one = with_number(command, alloc, "lease", "10", LEASE);
+    let two = with_number(one, alloc, "time", "0", TIME);
+    let three = with_number(two, alloc, "banks", "1", BANKS);
+    let four = with_number(three, alloc, "sets", "64", SETS);
+    let five = with_number(four, alloc, "ways", "4", WAYS);
+    let six = with_number(five, alloc, "bank-sets", "256", BANK_SETS);
+    let seven = with_number(six, alloc, "bank-ways", "8", BANK_WAYS);
+    let eight = with_number(seven, alloc, "line-words", "1", LINE_WORDS);
+    with_number(eight, alloc, "messages", "4096", MESSAGES)
 }
 
 /// A command with all the options of a run, and with a file.
@@ -280,7 +285,7 @@ fn with_count_options<'a>(
     let every = value_parser!(u64).range(1..);
     let one = with(command, flag(alloc, "records", RECORDS));
     let two = with(one, flag(alloc, "counts", COUNTS));
-    let three = with(two, bare(alloc, "every", every, EVERY));
+    let three = with(two, option_without_default(alloc, "every", every, EVERY));
     with(three, flag(alloc, "json", TRACE_JSON))
 }
 
@@ -294,9 +299,9 @@ fn with_stream_options<'a>(
     let cores = value_parser!(u64).range(1..65);
     let millions = value_parser!(u64).range(1..4294967296);
     let one = with(command, flag(alloc, "stream", STREAM));
-    let two = with(one, bare(alloc, "cores", cores, CORES));
+    let two = with(one, option_without_default(alloc, "cores", cores, CORES));
     let three = with(two, flag(alloc, "no-words", NO_WORDS));
-    with(three, bare(alloc, "progress", millions, PROGRESS))
+    with(three, option_without_default(alloc, "progress", millions, PROGRESS))
 }
 
 /// The command `trace`.

@@ -5,7 +5,7 @@ ghost use Rattle.clap.specs.Words.{found_of, rows_of};
 ghost use Rattle.command_line.specs.Options.{HasPath, HasWord, HasAnyNumber, IsFlag, HasNumber, IsOrder};
 ghost use Rattle.command_line.specs.Options.{IsSchedule, MayHaveNumber, TellsAsked, TellsCheck, TellsEnds};
 ghost use Rattle.command_line.specs.Options.{TellsLitmus, TellsMachine, TellsRun, TellsTrace, is_shared};
-ghost use Rattle.command_line.specs.Options.{cores_in_vain, counts_in_vain, fairly, json_in_vain, rows_in_vain};
+ghost use Rattle.command_line.specs.Options.{cores_in_vain, counts_in_vain, fair_schedule, json_in_vain, rows_in_vain};
 ghost use Rattle.command_line.specs.Options.{progress_in_vain, stream_in_vain, stream_of};
 
 use clap::ArgMatches;
@@ -88,8 +88,8 @@ fn schedule(matches: &ArgMatches<'_>, name: &str) -> Schedule
 }
 
 /// The schedule, made fair if that is asked; none if it can't be.
-fn fairly(fair: bool, schedule: Schedule) -> Option<Schedule>
-    ensures { result ≡ fairly fair schedule }
+fn fair_schedule(fair: bool, schedule: Schedule) -> Option<Schedule>
+    ensures { result ≡ fair_schedule fair schedule }
 {
     if !fair {
         return Some(schedule);
@@ -105,7 +105,7 @@ fn fairly(fair: bool, schedule: Schedule) -> Option<Schedule>
 fn order(matches: &ArgMatches<'_>) -> Option<Schedule>
     ensures { IsOrder (rows_of (found_of matches.now)) result }
 {
-    fairly(flag(matches, "fair"), schedule(matches, "schedule"))
+    fair_schedule(flag(matches, "fair"), schedule(matches, "schedule"))
 }
 
 /// The machine that the words ask for.

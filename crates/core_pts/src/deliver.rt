@@ -14,7 +14,7 @@ use private_cache::{CopyState, LineCopy};
 impl Core {
     // A reply brings this copy of the open operation's line.
     #[inline(always)]
-    fn arrive(&mut self, line: LineNo, copy: LineCopy)
+    fn fill_copy(&mut self, line: LineNo, copy: LineCopy)
         requires pinned { IsTrue (is_pinned (pinned_line self.old) line) }
         requires place { IsTrue (place_for self.old.cache line) }
         ensures { self.new ≡ record self.old {
@@ -33,7 +33,7 @@ impl Core {
 
     // The same for a line that comes so. It is taken from where it lies in the message.
     #[inline(never)]
-    fn bring(&mut self, line: LineNo, state: CopyState, timed: &TimedLine)
+    fn fill_line(&mut self, line: LineNo, state: CopyState, timed: &TimedLine)
         requires pinned { IsTrue (is_pinned (pinned_line self.old) line) }
         requires place { IsTrue (place_for self.old.cache line) }
         ensures { self.new ≡ record self.old {
@@ -41,11 +41,11 @@ impl Core {
           is_out = false;
         } }
     {
-        self.arrive(line, LineCopy::arrived(state, *timed));
+        self.fill_copy(line, LineCopy::arrived(state, *timed));
     }
 
     // A reply changes the copy of a line into this one.
-    fn grant(&mut self, line: LineNo, copy: LineCopy)
+    fn change_copy(&mut self, line: LineNo, copy: LineCopy)
         requires { IsSome (copy_of self.old.cache line) }
         ensures { self.new ≡ record self.old {
           cache = with_changed self.old.cache line copy;
@@ -76,15 +76,15 @@ impl Core {
     {
         let line = message.line;
         match &message.body {
-            Body::ShRep(timed) => self.bring(line, CopyState::Shared, timed),
-            Body::ExRep(timed) => self.bring(line, CopyState::Exclusive, timed),
+            Body::ShRep(timed) => self.fill_line(line, CopyState::Shared, timed),
+            Body::ExRep(timed) => self.fill_line(line, CopyState::Exclusive, timed),
             Body::RenewRep { rts } => {
                 let renewed = self.copy_there(line).renewed(*rts);
-                self.grant(line, renewed);
+                self.change_copy(line, renewed);
             }
             Body::UpgradeRep { rts } => {
                 let upgraded = self.copy_there(line).upgraded(*rts);
-                self.grant(line, upgraded);
+                self.change_copy(line, upgraded);
             }
             _ => unreachable!(),
         }
@@ -113,7 +113,7 @@ impl Core {
     }
 
     // This copy stays of a line that goes back, if any. It isn't the open operation's line.
-    fn keep(&mut self, line: LineNo, kept: Option<LineCopy>)
+    fn keep_copy(&mut self, line: LineNo, kept: Option<LineCopy>)
         requires there { IsSome (copy_of self.old.cache line) }
         requires free { is_pinned (pinned_line self.old) line ≡ false }
         ensures { self.new ≡ record self.old { cache = kept_in self.old line kept } }
@@ -170,7 +170,7 @@ impl Part for Core {
         let line = message.line;
         match self.decided(message) {
             CoreReaction::Returns { kept, sent } => {
-                self.keep(line, kept);
+                self.keep_copy(line, kept);
                 Ok(Reaction::Done(Some(self.to_bank(line, sent))))
             }
             CoreReaction::Drops | CoreReaction::NoCase => Ok(Reaction::Dropped),

@@ -6,7 +6,7 @@ ghost use Rattle.drawn_numbers.specs.Dealt.{AllDrawn, AllAt, knows_all, lists_fi
 
 use crate::drawer::Drawer;
 use crate::numbers::Numbers;
-use crate::steps::{CounterSeat, CounterTable, meet};
+use crate::steps::{CounterSeat, CounterTable, join_view};
 
 impl Numbers {
     /// Gives up the numbers and all their drawers. The list at a drawer's number is what it drew, in order. Together
@@ -46,7 +46,7 @@ fn join_all(
 {
     while let Some(drawer) = drawers.pop() {
         let other = leave(drawer, lists);
-        meet(table, seat, other);
+        join_view(table, seat, other);
     }
 }
 

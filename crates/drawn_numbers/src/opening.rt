@@ -4,7 +4,7 @@ ghost use Rattle.drawn_numbers.specs.Drawers.{AreNewDrawers, AllNewDrawers, HasM
 
 use crate::drawer::Drawer;
 use crate::numbers::Numbers;
-use crate::steps::{CounterSeat, make};
+use crate::steps::{CounterSeat, make_seat};
 use atomic_table::Table;
 use std::alloc::{AllocError, Global};
 
@@ -51,7 +51,7 @@ fn open_others(
 {
     let mut others = Vec::new(alloc);
     for number in 1..numbers.drawers {
-        let seat = make(&numbers.table.shared, first);
+        let seat = make_seat(&numbers.table.shared, first);
         others.push(new_drawer(alloc, seat, number))?;
     }
     Ok(others)

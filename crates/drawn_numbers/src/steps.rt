@@ -66,7 +66,7 @@ pub fn draw_next(table: &CounterTable, seat: &mut CounterSeat) -> u64
 }
 
 /// Makes the next drawer's seat.
-pub fn make(table: &CounterTable, first: &mut CounterSeat) -> CounterSeat
+pub fn make_seat(table: &CounterTable, first: &mut CounterSeat) -> CounterSeat
     requires table { Belongs first.old.table_id table.now.table_id table.now.key }
     requires more { (first.old.me.0.spent ≡ false) × (0 < first.old.me.0.made) ×
         (first.old.me.0.made < table.now.key) }
@@ -79,7 +79,7 @@ pub fn make(table: &CounterTable, first: &mut CounterSeat) -> CounterSeat
 }
 
 /// Takes in what another seat knows, which is then given up.
-pub fn meet(table: &CounterTable, seat: &mut CounterSeat, other: CounterSeat)
+pub fn join_view(table: &CounterTable, seat: &mut CounterSeat, other: CounterSeat)
     requires table { Belongs seat.old.table_id table.now.table_id table.now.key ×
         (other.table_id ≡ table.now.table_id) }
     requires live { (seat.old.me.0.spent ≡ false) × (other.me.0.spent ≡ false) ×

@@ -161,17 +161,17 @@ impl EventCounts {
         ensures { self.new ≡ requested self.old lost.now.lost system.now event.now }
     {
         if let Event::Attempt(core) = event {
-            self.ask(*core, cause_of(lost, system, *core));
+            self.note_request(*core, cause_of(lost, system, *core));
         }
     }
 
     // A core's request has this cause.
-    fn ask(&mut self, core: u32, cause: Cause)
+    fn note_request(&mut self, core: u32, cause: Cause)
         ensures { self.new ≡ at_core self.old core (asked cause) }
     {
         let at = core as usize;
         if at < self.cores.len() {
-            self.cores[at].ask(cause);
+            self.cores[at].note_request(cause);
         }
     }
 

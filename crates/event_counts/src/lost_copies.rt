@@ -66,7 +66,7 @@ impl LostCopies {
     }
 
     // A core lost its copy of a line so.
-    fn lose(&mut self, core: u32, line: LineNo, why: Cause)
+    fn note_loss(&mut self, core: u32, line: LineNo, why: Cause)
         requires { 0 < self.old.room }
         ensures { self.new.lost ≡ with_loss self.old.lost core line why }
     {
@@ -89,7 +89,7 @@ impl LostCopies {
             return;
         };
         if !has_copy(system, core, line) {
-            self.lose(core, line, taken_by(event));
+            self.note_loss(core, line, taken_by(event));
         }
     }
 }

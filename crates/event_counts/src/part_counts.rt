@@ -138,7 +138,7 @@ impl CoreCounts {
     }
 
     // A request is sent: the cause of the first one stays.
-    pub(crate) fn ask(&mut self, cause: Cause)
+    pub(crate) fn note_request(&mut self, cause: Cause)
         ensures { self.new ≡ asked cause self.old }
     {
         if self.asked.is_none() {

@@ -14,7 +14,7 @@ pub trait Dialog: Drop {
     fn turn(&self) -> Option<Turn<'_>>;
 
     /// Takes the answer to the line, and goes on to the next one.
-    fn tell(&mut self, reply: &Reply) -> io::Result<()>;
+    fn take_answer(&mut self, reply: &Reply) -> io::Result<()>;
 
     /// Takes why the line can't be read, and goes on to the next one.
     fn refuse(&mut self, cause: Cause) -> io::Result<()>;
@@ -75,7 +75,7 @@ impl<B: BufRead + Drop, W: Write + Drop> Dialog for Live<B, W> {
         })
     }
 
-    fn tell(&mut self, reply: &Reply) -> io::Result<()> {
+    fn take_answer(&mut self, reply: &Reply) -> io::Result<()> {
         self.say("", reply.told()?)
     }
 

@@ -21,7 +21,7 @@ fn narrow(number: u64) -> u32 {
 }
 
 /// What is opened if no option says otherwise: the program's machine, with two cores.
-fn usual() -> Config {
+fn default_config() -> Config {
     let options = MachineOptions::DEFAULT;
     Config {
         cores: 2,
@@ -81,7 +81,7 @@ fn with_words(alloc: Global, words: &mut Words<'_>) -> Result<Vec<(WordAddr, u64
 
 /// Reads what follows `machine` or `seats`.
 pub fn read_opening(alloc: Global, words: &mut Words<'_>) -> Result<Opening, Cause> {
-    let mut config = usual();
+    let mut config = default_config();
     for _ in 0..u64::MAX {
         match words.next_word() {
             None => break,

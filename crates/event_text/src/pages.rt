@@ -98,7 +98,7 @@ impl<'a> Page<'a> {
     }
 
     /// Reports why a line can't be read.
-    pub(crate) fn tell_fault<W: Write + Drop>(
+    pub(crate) fn report_fault<W: Write + Drop>(
         &mut self,
         line: usize,
         cause: &str,
@@ -128,7 +128,7 @@ impl<'a> Page<'a> {
     }
 
     /// Takes the answer to a line that was played.
-    pub fn tell<W: Write + Drop>(
+    pub fn take_answer<W: Write + Drop>(
         &mut self,
         turn: &Turn<'_>,
         reply: &Reply,
@@ -140,7 +140,7 @@ impl<'a> Page<'a> {
         }
         let Some(wanted) = turn.wanted else {
             self.note(turn, came, false)?;
-            return self.tell_unasked(turn, came, out);
+            return self.report_unasked(turn, came, out);
         };
         self.answers = self.answers.saturating_add(1);
         put_turned(wanted, turn.turn, &mut self.told);
@@ -174,7 +174,7 @@ impl<'a> Page<'a> {
     }
 
     /// Reports the answer to a line that expects none.
-    pub fn tell_unasked<W: Write + Drop>(
+    pub fn report_unasked<W: Write + Drop>(
         &mut self,
         turn: &Turn<'_>,
         came: &str,

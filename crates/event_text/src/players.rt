@@ -73,7 +73,7 @@ fn play_example<P: Player, W: Write + Drop>(
         Ok(()) => Ok(()),
         Err(fault) => match fault.cause {
             Cause::NoMemory => Err(io::Error::from(AllocError)),
-            cause => page.tell_fault(fault.line, cause.text(), out),
+            cause => page.report_fault(fault.line, cause.text(), out),
         },
     }
 }

@@ -27,7 +27,7 @@ impl Reply {
     }
 
     /// Notes that memory for a part of the answer can't be allocated.
-    pub fn cut(&mut self) {
+    pub fn note_no_memory(&mut self) {
         self.is_cut = true;
     }
 

@@ -17,7 +17,7 @@ pub struct Example<'a> {
 }
 
 /// What a line says, without its comment.
-pub(crate) fn said_in(line: &str) -> &str {
+pub(crate) fn without_comment(line: &str) -> &str {
     match line.split_once('#') {
         Some((said, _)) => said,
         None => line,
@@ -35,7 +35,7 @@ pub fn behind<'a>(text: &'a str, beginning: &str) -> &'a str {
 }
 
 fn is_heading(line: &str) -> bool {
-    first_word(said_in(line)) == "example"
+    first_word(without_comment(line)) == "example"
 }
 
 impl<'a> Text<'a> {

@@ -1,7 +1,7 @@
 //! The lines of an example in the order in which they are played: what is repeated comes as often as it says.
 
 use crate::causes::{Cause, Fault};
-use crate::texts::{Example, behind, first_word, said_in};
+use crate::texts::{Example, behind, first_word, without_comment};
 use crate::turned::decimal;
 use crate::words::Words;
 use std::str::Split;
@@ -71,7 +71,7 @@ impl<'a> Cursor<'a> {
             let Some(line) = self.example.lines.get(self.at) else {
                 return self.ended();
             };
-            match self.step(said_in(line)) {
+            match self.step(without_comment(line)) {
                 Ok(None) => {}
                 Ok(turn) => return Ok(turn),
                 Err(cause) => return Err(self.fault(self.at, cause)),

@@ -1,7 +1,7 @@
 //! Lines with the answers that came, written after them.
 
 use crate::replies::Reply;
-use crate::texts::{behind, said_in};
+use crate::texts::{behind, without_comment};
 use crate::turned::{is_wanted, parted, put_turned};
 use std::alloc::{AllocError, Global};
 
@@ -17,7 +17,7 @@ pub(crate) struct Written {
 }
 
 /// A text that is the first answer in turn 0, and the second one in turn 1 if the words that differ go on by one.
-fn going_on(alloc: Global, first: &str, second: &str) -> Reply {
+fn text_by_turn(alloc: Global, first: &str, second: &str) -> Reply {
     let mut text = Reply::new(alloc);
     let mut others = second.split_ascii_whitespace();
     for word in first.split_ascii_whitespace() {
@@ -51,7 +51,7 @@ impl Written {
     ) -> Result<(), AllocError> {
         self.is_new = self.is_new || !is_right;
         if turn == Some(1) && came != self.first.as_str() {
-            self.by_turn = Some(going_on(alloc, self.first.as_str(), came));
+            self.by_turn = Some(text_by_turn(alloc, self.first.as_str(), came));
         }
         let Some(text) = &self.by_turn else {
             return Ok(());
@@ -69,7 +69,7 @@ impl Written {
             told.add(line);
             return Ok(());
         }
-        let said = said_in(line);
+        let said = without_comment(line);
         match said.split_once(':') {
             Some((call, _)) => told.add(call),
             None => {

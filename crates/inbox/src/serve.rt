@@ -39,7 +39,7 @@ fn fitted<T: Drop>(places: u32, answer: Answer<T>) -> Answer<T>
 }
 
 // Hands the part a message for which the held list has so many places.
-fn ask<T: Drop, P: Receiver<T>>(part: &mut P, message: &T, places: u32) -> Answer<T>
+fn deliver_to_part<T: Drop, P: Receiver<T>>(part: &mut P, message: &T, places: u32) -> Answer<T>
     requires { IsTrue (P.has_case part.old message.now) }
     ensures answer { Asks P.table P.takes_memory part.old message.now places result part.new }
     ensures fits { needs result ≤ places }
@@ -67,8 +67,8 @@ struct Walk<T> {
     refused: bool,
 }
 
-// Asks the part about the held messages, the oldest first, up to the one that isn't passed.
-fn ask_held<T: Drop, P: Receiver<T>>(held: &Queue<T>, part: &mut P) -> Walk<T>
+// Hands the part the held messages, the oldest first, up to the one that isn't passed.
+fn deliver_held<T: Drop, P: Receiver<T>>(held: &Queue<T>, part: &mut P) -> Walk<T>
     requires cases { (i : ℕ) (m : T) → slice_get (values_of held.now) i ≡ Some m →
         IsTrue (P.has_case part.old m) }
     ensures walk { Walks P.table P.takes_memory held.now part.old result.refused result.found part.new }
@@ -85,7 +85,7 @@ fn ask_held<T: Drop, P: Receiver<T>>(held: &Queue<T>, part: &mut P) -> Walk<T>
                 refused,
             };
         };
-        let answer = ask(part, held.get(cell), places);
+        let answer = deliver_to_part(part, held.get(cell), places);
         if !is_passed(&answer) {
             return Walk {
                 found: Some((cell, answer)),
@@ -147,7 +147,7 @@ impl<T: Drop> Inbox<T> {
             return self.serve_held(false, part);
         };
         let places = self.held.places();
-        let answer = ask(part, message, places);
+        let answer = deliver_to_part(part, message, places);
         if finds_no_place(&answer) {
             return self.serve_held(true, part);
         }
@@ -159,7 +159,7 @@ impl<T: Drop> Inbox<T> {
         requires { HaveCases P.has_case self.old part.old }
         ensures { ServesHeld P.table P.takes_memory refused self.old part.old result self.new part.new }
     {
-        let walk = ask_held(&self.held, part);
+        let walk = deliver_held(&self.held, part);
         match walk.found {
             Some(found) => settle_held(&mut self.held, found),
             None => self.none_served(refused || walk.refused),

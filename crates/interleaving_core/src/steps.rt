@@ -152,9 +152,13 @@ impl<H: History> MachineState<H> {
         self.deliver(number, &mut waits)
     }
 
-    // The delivery of a message, as `step` makes it. `waits` is as in `deliver`.
+    // What the table answers to the delivery of a message. `waits` is as in `deliver`.
     #[inline(always)]
-    fn told(&mut self, number: MsgNo, waits: &mut bool) -> Result<Option<PlainAnswer>, AllocError>
+    fn answer_delivery(
+        &mut self,
+        number: MsgNo,
+        waits: &mut bool,
+    ) -> Result<Option<PlainAnswer>, AllocError>
         requires kept { Invariant self.old }
         requires not_yet { waits.old ≡ false }
         ensures done { IfOk result (λ plain. (answer_in self.new.records plain, self.new) ≡
@@ -176,7 +180,7 @@ impl<H: History> MachineState<H> {
 
     /// The delivery of a message, as `step` makes it. `waits` is as in `deliver`.
     #[inline(always)]
-    pub(crate) fn step_told(&mut self, number: MsgNo, waits: &mut bool) -> Option<PlainAnswer>
+    pub(crate) fn step_delivery(&mut self, number: MsgNo, waits: &mut bool) -> Option<PlainAnswer>
         requires kept { Invariant self.old }
         requires not_yet { waits.old ≡ false }
         ensures stepped { Stepped self.old (Event.Deliver number)
@@ -185,7 +189,7 @@ impl<H: History> MachineState<H> {
         ensures waits { waits.new ≡ delivery_waits self.old (Event.Deliver number) }
         ensures told { IsTrue waits.new → make_room self.new number ≡ None }
     {
-        match self.told(number, waits) {
+        match self.answer_delivery(number, waits) {
             Ok(plain) => plain,
             Err(AllocError) => Some(PlainAnswer::Refused(Refusal::NoMemory)),
         }

@@ -194,7 +194,7 @@ impl<H: History> System<H> {
     /// Delivers a message, as `step_plain` does, and says whether it is a request of a line that its bank is loading,
     /// recalling or storing: it is held then, and no line need leave the bank for it.
     #[inline(always)]
-    pub fn step_told(&mut self, number: MsgNo) -> (Option<PlainAnswer>, bool)
+    pub fn step_delivery(&mut self, number: MsgNo) -> (Option<PlainAnswer>, bool)
         ensures stepped { Stepped self.old (Event.Deliver number)
             (answer_in self.new.records result.0) self.new }
         ensures completed { result.0 ≡ None → 0 < length self.new.records }
@@ -202,7 +202,7 @@ impl<H: History> System<H> {
         ensures told { IsTrue result.1 → make_room self.new number ≡ None }
     {
         let mut waits = false;
-        let plain = self.state.step_told(number, &mut waits);
+        let plain = self.state.step_delivery(number, &mut waits);
         (plain, waits)
     }
 

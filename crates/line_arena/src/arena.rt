@@ -113,7 +113,7 @@ impl<T> Arena<T> {
         ensures value { look_up cell self.old.lists ≡ Some result }
         ensures after { self.new ≡ unlinked cell self.old }
     {
-        self.chains.lift(cell.0);
+        self.chains.detach(cell.0);
         self.chains.release(cell.0).unwrap()
     }
 
@@ -126,7 +126,7 @@ impl<T> Arena<T> {
         ensures value { look_up cell self.old.lists ≡ Some result }
         ensures after { self.new ≡ pushed list (cell, item) (unlinked cell self.old) }
     {
-        self.chains.lift(cell.0);
+        self.chains.detach(cell.0);
         self.chains.fill(list, cell.0, item).unwrap()
     }
 
@@ -138,7 +138,7 @@ impl<T> Arena<T> {
         ensures { IfSome (look_up cell self.old.lists) (λ item.
             self.new ≡ pushed list (cell, item) (unlinked cell self.old)) }
     {
-        self.chains.lift(cell.0);
+        self.chains.detach(cell.0);
         self.chains.attach(list, cell.0);
     }
 

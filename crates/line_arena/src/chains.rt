@@ -254,7 +254,7 @@ impl<T> Chains<T> {
 
     /// Takes a cell off its list. It keeps its value, and isn't free.
     #[inline(always)]
-    pub(crate) fn lift(&mut self, cell: u32)
+    pub(crate) fn detach(&mut self, cell: u32)
         requires arena { IsArena self.old }
         requires cell { IsFilled self.old.block cell }
         requires on { (at self.old.block cell).list < length self.old.heads.items }

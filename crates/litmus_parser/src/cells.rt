@@ -12,7 +12,7 @@ ghost use Rattle.litmus_parser.specs.Verdicts.{meaning};
 ghost use Rattle.litmus_parser.specs.Table.{ends_here, has_shape, filled, cell, column, row};
 
 use crate::forms::{Form, read_form};
-use crate::instructions::judge;
+use crate::instructions::instruction_of_form;
 use crate::syntax::{Cell, Instruction, Item, Width};
 use litmus_lexer::{BAR, Cursor, Kind, ReadError, SEMICOLON, Token, next_token};
 use piece_forms::{end_line, first};
@@ -83,7 +83,7 @@ fn close<'a>(
 {
     match first(&cursor) {
         (Some(Token::Sign(sign)), after) if sign == closing => {
-            let meant = judge(items, thread, width, form, &cursor)?;
+            let meant = instruction_of_form(items, thread, width, form, &cursor)?;
             Ok((meant, after))
         }
         _ => Err(cursor.fault(Kind::BadInstruction)),

@@ -12,7 +12,7 @@ use crate::atoms::{factor_start, value_register};
 use crate::items::{Opening, equals};
 use crate::syntax::{Expr, Item, Name};
 use litmus_lexer::{CLOSING_PARENTHESIS, COLON, Cursor, Kind, Locations, MOST_ATOMS, ReadError};
-use piece_forms::{expect_sign, over_word};
+use piece_forms::{expect_sign, skip_word};
 use std::alloc::{AllocError, Global};
 
 /// What joins the parts of an expression: `or` its terms, `and` the factors of a term.
@@ -96,7 +96,7 @@ fn next_part<'a>(
         (joined connective (part_of connective (address_of items.now) threads depth))
         (tree_of left, (locations.old, atoms))) at.entry.line at.entry.pieces) }
 {
-    let (more, after) = over_word(&at, sign(connective));
+    let (more, after) = skip_word(&at, sign(connective));
     if !more {
         return Ok((false, left, atoms, after));
     }

@@ -59,7 +59,7 @@ fn base_location(items: &[Item], thread: u8, register: u8, at: &Cursor<'_>) -> R
 /// The instruction that a thread's form stands for, and the width of the text after it: the
 /// number is tested first, then the width, then the registers from the left.
 #[tactic(auto, unfolding(crate::specs::Verdicts::meaning))]
-pub fn judge(
+pub fn instruction_of_form(
     items: &[Item],
     thread: u8,
     width: Option<Width>,

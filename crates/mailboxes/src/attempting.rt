@@ -113,7 +113,7 @@ impl CoreSeat {
                 self.is_stopped = true;
                 Answer::Refused(Refusal::Exhausted)
             }
-            Outcome::Requests(request) => self.ask(machine, request),
+            Outcome::Requests(request) => self.send_request(machine, request),
             Outcome::Completes(done) => {
                 let word = machine.table.slot_count();
                 let number = finish(
@@ -133,7 +133,7 @@ impl CoreSeat {
     }
 
     // Sends the request that the open operation needs, if it can be sent.
-    fn ask(&mut self, machine: &Machine, request: Message) -> Answer
+    fn send_request(&mut self, machine: &Machine, request: Message) -> Answer
         requires seat { IsCoreSeat machine.now self.old }
         requires asks { Asks self.old.part.core request }
         ensures seat { IsCoreSeat machine.now self.new × SamePlace self.old self.new }

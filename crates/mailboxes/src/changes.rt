@@ -32,7 +32,7 @@ impl<C: StepChoice> Play<Option<Message>, View<Hold>> for Stands<C> {
 }
 
 // What the seat holds becomes what the call picks.
-fn stand<C: StepChoice>(table: &SlotTable, seat: &mut SlotSeat, word: usize)
+fn store_hold<C: StepChoice>(table: &SlotTable, seat: &mut SlotSeat, word: usize)
     requires table { Belongs seat.old.table_id table.now.table_id table.now.key }
     requires word { word ≡ slot_count table.now.key }
     requires live { seat.old.me.0.spent ≡ false }
@@ -183,5 +183,5 @@ fn change<C: StepChoice, P, I>(
 {
     moves_of_seats_are_changes();
     let word = machine.table.slot_count();
-    stand::<C>(&machine.table.shared, seat, word);
+    store_hold::<C>(&machine.table.shared, seat, word);
 }

@@ -13,7 +13,7 @@ use crate::core_seat::CoreSeat;
 use crate::machine::Machine;
 use crate::mailbox::Mailbox;
 use crate::sending::{SendingBank, SendingCore};
-use crate::steps::{SlotSeat, SlotTable, meet};
+use crate::steps::{SlotSeat, SlotTable, join_view};
 use closed_machine::{BankPart, ClosedMachine, CorePart, Run, empty_slots, merged};
 use seat_rule::laws::{closed_machines_are_one_state, links_lose_and_double_nothing};
 use std::alloc::{AllocError, Global};
@@ -206,6 +206,6 @@ fn join<S: Leaver<Q> + Drop, Q: Drop>(
 {
     while let Some(port) = seats.pop() {
         let other = port.leave(parts);
-        meet(table, seat, other);
+        join_view(table, seat, other);
     }
 }

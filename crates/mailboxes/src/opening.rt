@@ -8,7 +8,7 @@ use crate::bank_seat::BankSeat;
 use crate::core_seat::CoreSeat;
 use crate::machine::Machine;
 use crate::opened_dram::open_dram;
-use crate::steps::{SlotSeat, make};
+use crate::steps::{SlotSeat, make_seat};
 use atomic_table::Table;
 use machine_table::{Config, OpenError};
 use physiological_order::{Memory, WordAddr};
@@ -93,7 +93,7 @@ fn open_cores(
     seats_stand();
     let mut cores = Vec::new(alloc);
     for number in 1..machine.set_up.config.cores {
-        let seat = make(&machine.table.shared, first);
+        let seat = make_seat(&machine.table.shared, first);
         cores.push(CoreSeat::new(alloc, machine, seat, number)?)?;
     }
     Ok(cores)
@@ -116,7 +116,7 @@ fn open_banks(
     let mut banks = Vec::new(alloc);
     for number in 0..config.banks {
         let dram = open_dram(alloc, &config, number, words.as_slice())?;
-        let seat = make(&machine.table.shared, first);
+        let seat = make_seat(&machine.table.shared, first);
         let seat_number = config.cores + number;
         banks.push(BankSeat::new(alloc, machine, seat, seat_number, dram)?)?;
     }

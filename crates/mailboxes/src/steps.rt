@@ -235,7 +235,7 @@ fn received<C: StepChoice>(
 }
 
 /// Makes the next seat.
-pub fn make(table: &SlotTable, first: &mut SlotSeat) -> SlotSeat
+pub fn make_seat(table: &SlotTable, first: &mut SlotSeat) -> SlotSeat
     requires table { Belongs first.old.table_id table.now.table_id table.now.key }
     requires more { (first.old.me.0.spent ≡ false) × (0 < first.old.me.0.made) ×
         (first.old.me.0.made < seat_count table.now.key) }
@@ -244,10 +244,10 @@ pub fn make(table: &SlotTable, first: &mut SlotSeat) -> SlotSeat
     ensures made { (first.new.me ≡ (one_more first.old.me.0, first.old.me.1)) × (result.me ≡
         (seat_view first.old.me.0.made (opening_hold table.now.key first.old.me.0.made), [])) }
 {
-    make_as::<Brand>(table, first)
+    make_seat_as::<Brand>(table, first)
 }
 
-fn make_as<C: StepChoice>(table: &SlotTable, first: &mut SlotSeat) -> SlotSeat
+fn make_seat_as<C: StepChoice>(table: &SlotTable, first: &mut SlotSeat) -> SlotSeat
     requires table { Belongs first.old.table_id table.now.table_id table.now.key }
     requires more { (first.old.me.0.spent ≡ false) × (0 < first.old.me.0.made) ×
         (first.old.me.0.made < seat_count table.now.key) }
@@ -262,7 +262,7 @@ fn make_as<C: StepChoice>(table: &SlotTable, first: &mut SlotSeat) -> SlotSeat
 }
 
 /// Takes in what another seat knows, which is then given up.
-pub fn meet(table: &SlotTable, seat: &mut SlotSeat, other: SlotSeat)
+pub fn join_view(table: &SlotTable, seat: &mut SlotSeat, other: SlotSeat)
     requires table { Belongs seat.old.table_id table.now.table_id table.now.key ×
         (other.table_id ≡ table.now.table_id) }
     requires live { (seat.old.me.0.spent ≡ false) × (other.me.0.spent ≡ false) ×

@@ -92,7 +92,7 @@ pub fn stale_hits_counted(
     let mut latest = NumberMap::new(alloc);
     let mut count = 0;
     for record in records {
-        if visit(steps, &mut latest, record)? {
+        if check_stale_hit(steps, &mut latest, record)? {
             count += 1;
         }
     }
@@ -100,7 +100,7 @@ pub fn stale_hits_counted(
 }
 
 /// Whether the record is a load with a later write of its word before it; a write is kept as the latest of its word.
-fn visit(
+fn check_stale_hit(
     steps: &mut Steps,
     latest: &mut NumberMap<u64>,
     visited: &Record,

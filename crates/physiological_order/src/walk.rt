@@ -13,7 +13,7 @@ use std::alloc::{AllocError, Global};
 
 /// The verdict on records picked by stamps, which are arranged: the first fault along the stamps, program order before
 /// value.
-pub(crate) fn walk(
+pub(crate) fn arranged_verdict(
     alloc: Global,
     opening: &Memory,
     issued: &[Vec<Op>],

@@ -4,5 +4,5 @@
 mod looks;
 
 pub use looks::{
-    ahead, end_line, expect_end, expect_here, expect_sign, first, from_next, over_word,
+    ahead, end_line, expect_end, expect_here, expect_sign, first, from_next, skip_word,
 };

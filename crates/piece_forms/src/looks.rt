@@ -63,7 +63,7 @@ pub fn expect_sign<'a>(cursor: Cursor<'a>, kind: Kind, wanted: u8) -> Result<Cur
 }
 
 /// Whether this word comes next; and the position after it, or that of what comes next.
-pub fn over_word<'a>(cursor: &Cursor<'a>, wanted: &[u8]) -> (bool, Cursor<'a>)
+pub fn skip_word<'a>(cursor: &Cursor<'a>, wanted: &[u8]) -> (bool, Cursor<'a>)
     ensures { reads (perhaps Beyond (is_word wanted.now)) cursor.now.line cursor.now.pieces
         ≡ Ok (result.0, result.1.line, result.1.pieces) }
 {

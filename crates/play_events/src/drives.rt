@@ -93,7 +93,7 @@ impl Drives {
         let _inside: Option<Op> = None;
         match self.programs.push((core, steps)) {
             Ok(()) => out.word("given"),
-            Err(_) => out.cut(),
+            Err(_) => out.note_no_memory(),
         }
     }
 
@@ -140,7 +140,7 @@ impl Drives {
         self.counted = if self.is_new { Some(policy) } else { None };
         self.is_new = false;
         if self.run(system, policy, limit, out).is_err() {
-            out.cut();
+            out.note_no_memory();
         }
     }
 

@@ -21,7 +21,7 @@ fn put_found(found: Result<Found, AllocError>, out: &mut Reply) {
         Ok(Found::Same(lines)) => out.lines(lines.as_slice()),
         Ok(Found::Differ) => out.word(DIFFER),
         Ok(Found::NoMemory) => out.word(NO_MEMORY),
-        Err(_) => out.cut(),
+        Err(_) => out.note_no_memory(),
     }
 }
 

@@ -149,7 +149,7 @@ pub(crate) fn put_look(
         What::Entries => put_entries(alloc, system, look.number, out),
         What::Flight => {
             if put_flight(alloc, system, out).is_err() {
-                out.cut();
+                out.note_no_memory();
             }
         }
         What::Stale => put_stale(alloc, system, out),

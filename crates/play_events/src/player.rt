@@ -53,11 +53,11 @@ fn play_line<W: Write + Drop>(
     play_turn(played, turn, reply)?;
     if page.how.again && reply.told()? == NO_MEMORY {
         if turn.wanted.is_none() {
-            page.tell_unasked(turn, NO_MEMORY, out)?;
+            page.report_unasked(turn, NO_MEMORY, out)?;
         }
         play_turn(played, turn, reply)?;
     }
-    page.tell(turn, reply, out)
+    page.take_answer(turn, reply, out)
 }
 
 /// Plays a line that came, or tells why it can't be read.
@@ -72,7 +72,7 @@ fn answer_line<D: Dialog>(
             reply.clear();
             reply.line_words = played.line_words();
             played.play(call, reply);
-            dialog.tell(reply)
+            dialog.take_answer(reply)
         }
         Err(cause) => dialog.refuse(cause),
     }

@@ -64,7 +64,7 @@ fn play_open<D: Dialog>(
             None | Some(Call::Seats(_) | Call::Numbers(_) | Call::Close) => return Ok(()),
             Some(call) => {
                 put_called(machine, cores, banks, &call, &mut play.reply);
-                play.tell()?;
+                play.take_answer()?;
             }
         }
     }
@@ -80,7 +80,7 @@ fn play_closed<D: Dialog>(play: &mut Play<'_, D>, run: &Run) -> io::Result<()>
             None | Some(Call::Seats(_) | Call::Numbers(_)) => return Ok(()),
             Some(call) => {
                 put_asked(play.alloc, run, &call, &mut play.reply);
-                play.tell()?;
+                play.take_answer()?;
             }
         }
     }

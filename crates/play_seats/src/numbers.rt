@@ -70,7 +70,7 @@ fn play_open<D: Dialog>(
             Some(Call::Drawn(drawer)) => put_drawn(drawers, drawer, &mut play.reply),
             Some(_) => play.reply.word(NO_MACHINE),
         }
-        play.tell()?;
+        play.take_answer()?;
     }
     Ok(())
 }
@@ -83,7 +83,7 @@ fn play_closed<D: Dialog>(play: &mut Play<'_, D>, lists: &[Vec<u64>]) -> io::Res
             Some(Call::Drawn(drawer)) => put_left(lists, drawer, &mut play.reply),
             Some(_) => play.reply.word(NO_MACHINE),
         }
-        play.tell()?;
+        play.take_answer()?;
     }
     Ok(())
 }

@@ -51,11 +51,11 @@ impl<W: Write + Drop> Dialog for OfExample<'_, '_, '_, '_, W> {
     }
 
     /// Goes on to this line again, if it is played once more.
-    fn tell(&mut self, reply: &Reply) -> io::Result<()> {
+    fn take_answer(&mut self, reply: &Reply) -> io::Result<()> {
         let Some(turn) = self.now else {
             return Ok(());
         };
-        self.page.tell(&turn, reply, self.out)?;
+        self.page.take_answer(&turn, reply, self.out)?;
         self.is_again = !self.is_again && self.page.how.again && reply.told()? == NO_MEMORY;
         if !self.is_again {
             self.now = next(&mut self.cursor);
@@ -103,8 +103,8 @@ impl<'d, D: Dialog> Play<'d, D> {
     }
 
     /// Takes the answer, and goes on to the next line, or to this one again if it is played once more.
-    pub fn tell(&mut self) -> io::Result<()> {
-        self.dialog.tell(&self.reply)?;
+    pub fn take_answer(&mut self) -> io::Result<()> {
+        self.dialog.take_answer(&self.reply)?;
         self.reply.clear();
         Ok(())
     }
@@ -112,6 +112,6 @@ impl<'d, D: Dialog> Play<'d, D> {
     /// Takes this answer, and goes on.
     pub fn say(&mut self, answer: &str) -> io::Result<()> {
         self.reply.word(answer);
-        self.tell()
+        self.take_answer()
     }
 }

@@ -52,7 +52,7 @@ fn put_check(alloc: Global, run: &Run, out: &mut Reply)
     requires { Parts run.now }
 {
     let Ok(issued) = issued(alloc, run) else {
-        return out.cut();
+        return out.note_no_memory();
     };
     match check(alloc, &run.set_up.memory, issued.as_slice(), run.records()) {
         Ok(verdict) => put_verdict(&verdict, out),

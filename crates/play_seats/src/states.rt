@@ -19,7 +19,7 @@ fn put_part(name: &str, line: LineNo, out: &mut Reply) {
 
 fn put_copies(view: &CoreView<'_>, out: &mut Reply) {
     let Ok(lines) = view.core.lines() else {
-        return out.cut();
+        return out.note_no_memory();
     };
     for line in &lines {
         let copy = view.core.copy(*line);

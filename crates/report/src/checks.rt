@@ -12,7 +12,7 @@ ghost use Rattle.report.specs.Verdicts.{HasNoVerdict, IsCheckReport, IsVerdictLi
 ghost use Rattle.report.specs.Verdicts.{TellsAll, TellsComplete, TellsVerdict, WritesCounted, is_legal};
 
 use crate::complete::{count_of_core, first_lack};
-use crate::outputs::{Report, put_out};
+use crate::outputs::{Report, write_report};
 use crate::texts::{records_of, trace_of};
 use byte_streams::{Sink, Source};
 use physiological_order::{Memory, Op, Record, Verdict, check};
@@ -120,7 +120,7 @@ pub fn check_history<S: Source, R: Source, K: Sink>(
     let done = Done {
         all_done: report.all_done,
     };
-    put_out(sink, &report.text, done)
+    write_report(sink, &report.text, done)
 }
 
 /// The report of the verdict on the trace and the records that the sources have.

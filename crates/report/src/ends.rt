@@ -6,8 +6,8 @@ ghost use Rattle.report.specs.Bytes.{OfBytes};
 ghost use Rattle.report.specs.Ends.{HasNoEnds, HasNoEndsInMemory, IsEndsReport};
 
 use crate::every_text::every_text;
-use crate::litmus::test_in;
-use crate::outputs::{Report, layout_of, put_out};
+use crate::litmus::litmus_test_of;
+use crate::outputs::{Report, layout_of, write_report};
 use crate::sources::read_text;
 use byte_streams::{Sink, Source};
 use run_options::EndsOptions;
@@ -50,7 +50,7 @@ pub fn run_ends<S: Source, K: Sink>(
     let done = Done {
         all_done: report.all_done,
     };
-    put_out(sink, &report.text, done)
+    write_report(sink, &report.text, done)
 }
 
 /// The list of the ends of the litmus test that a text is: those of the sequential machine, all of them and no other.
@@ -61,7 +61,7 @@ pub fn ends_report(alloc: Global, text: &[u8], options: &EndsOptions) -> Result<
         IsEndsReport options.now text.now report.all_done report.text.items) }
     ensures refused { IfErr result (HasNoEndsInMemory options.now text.now) }
 {
-    let test = match test_in(alloc, text) {
+    let test = match litmus_test_of(alloc, text) {
         Ok(test) => test,
         Err(error) => return Err(error),
     };

@@ -11,7 +11,7 @@ ghost use Rattle.report_lines.specs.declared.layout.Layout.TheVariants.{Lines};
 ghost use Rattle.worker_driver.specs.SetUp.{FollowsPolicy};
 
 use crate::checks::verdict_on;
-use crate::litmus::{report_on, test_in};
+use crate::litmus::{litmus_test_of, report_on};
 use crate::openings::opening_of;
 use crate::outputs::Report;
 use crate::reports::report_by_policy;
@@ -24,7 +24,7 @@ use run_results::RunError;
 use std::alloc::{AllocError, Global};
 use std::io::Read;
 use trace_reader::Trace;
-use worker_driver::{Driver, asked_policy_runs, config_of, driver_of};
+use worker_driver::{Driver, config_of, driver_of, policy_runs_by_options};
 
 // Bytes in memory, as a source that never fails.
 #[derive(Drop)]
@@ -65,11 +65,11 @@ pub fn litmus_report(
         IsLitmusReport options.now text.now report.all_done report.text.items) }
     ensures refused { IfErr result (HasNoReportInMemory options.now text.now) }
 {
-    let test = match test_in(alloc, text) {
+    let test = match litmus_test_of(alloc, text) {
         Ok(test) => test,
         Err(error) => return Err(error),
     };
-    match asked_policy_runs(alloc, &test, options) {
+    match policy_runs_by_options(alloc, &test, options) {
         Ok(Some(runs)) => report_on(alloc, &test, &runs, options),
         Ok(None) => Err(RunError::BadConfig),
         Err(AllocError) => Err(RunError::NoMemory),

@@ -10,7 +10,7 @@ ghost use Rattle.report.specs.Bytes.{OfBytes};
 ghost use Rattle.report.specs.Litmus.{AreRuns, HasNoReport, HasNoReportInMemory, HasNoTestInMemory};
 ghost use Rattle.report.specs.Litmus.{IsLitmusReport, litmus_refusal};
 
-use crate::outputs::{Report, layout_of, put_out};
+use crate::outputs::{Report, layout_of, write_report};
 use crate::sources::read_text;
 use byte_streams::{Sink, Source};
 use litmus_reader::{Kind, LitmusError, Test, read};
@@ -21,7 +21,7 @@ use run_results::{Done, RunError};
 use std::alloc::{AllocError, Global};
 use std::rt::Clock;
 use std::thread::Threads;
-use worker_driver::asked_runs;
+use worker_driver::runs_by_options;
 
 /// Reads a litmus test to the end of the source, runs it as the options say, and writes the report of the runs. Each
 /// end state in the report is an outcome of the sequential machine. If the source has more bytes than a litmus text
@@ -59,11 +59,11 @@ pub fn run_litmus<R: Threads + Clock + Sync, S: Source, K: Sink>(
     let done = Done {
         all_done: report.all_done,
     };
-    put_out(sink, &report.text, done)
+    write_report(sink, &report.text, done)
 }
 
 /// The litmus test that these bytes are, or why they are none.
-pub(crate) fn test_in(alloc: Global, bytes: &[u8]) -> Result<Test, RunError>
+pub(crate) fn litmus_test_of(alloc: Global, bytes: &[u8]) -> Result<Test, RunError>
     ensures found { IfOk result (λ test. IsTest bytes.now (test_of test)) }
     ensures few { IfOk result (λ test. (test_of test).threads ≤ 16) }
     ensures refused { IfErr result (HasNoTestInMemory bytes.now) }
@@ -85,11 +85,11 @@ fn report_of<R: Threads + Clock + Sync>(
         IsLitmusReport options.now bytes.now report.all_done report.text.items) }
     ensures refused { IfErr result (HasNoReportInMemory options.now bytes.now) }
 {
-    let test = match test_in(alloc, bytes) {
+    let test = match litmus_test_of(alloc, bytes) {
         Ok(test) => test,
         Err(error) => return Err(error),
     };
-    match asked_runs(rt, alloc, &test, options) {
+    match runs_by_options(rt, alloc, &test, options) {
         Ok(Some(runs)) => report_on(alloc, &test, &runs, options),
         Ok(None) => Err(RunError::BadConfig),
         Err(AllocError) => Err(RunError::NoMemory),

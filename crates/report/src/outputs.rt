@@ -23,7 +23,7 @@ pub fn layout_of(json: bool) -> Layout
 }
 
 /// Writes the text.
-pub(crate) fn put_text<K: Sink>(sink: &mut K, text: &[u8]) -> Result<(), RunError>
+pub(crate) fn write_text<K: Sink>(sink: &mut K, text: &[u8]) -> Result<(), RunError>
     ensures all { OnOk result (Grows (K.contents sink.old) (K.contents sink.new) text.now) }
     ensures none_failed { OnOk result (K.failures sink.new ≡ K.failures sink.old) }
     ensures failed { IfErr result (IsWriteError
@@ -37,7 +37,7 @@ pub(crate) fn put_text<K: Sink>(sink: &mut K, text: &[u8]) -> Result<(), RunErro
 }
 
 /// Writes the text, and answers whether it says that all is done.
-pub fn put_out<K: Sink>(sink: &mut K, text: &[u8], done: Done) -> Result<Done, RunError>
+pub fn write_report<K: Sink>(sink: &mut K, text: &[u8], done: Done) -> Result<Done, RunError>
     ensures done { IfOk result (λ answer. answer ≡ done) }
     ensures all { OnOk result (Grows (K.contents sink.old) (K.contents sink.new) text.now) }
     ensures none_failed { OnOk result (K.failures sink.new ≡ K.failures sink.old) }
@@ -45,6 +45,6 @@ pub fn put_out<K: Sink>(sink: &mut K, text: &[u8], done: Done) -> Result<Done, R
         (K.contents sink.old) (K.contents sink.new) (K.failures sink.old) (K.failures sink.new)
         text.now) }
 {
-    put_text(sink, text)?;
+    write_text(sink, text)?;
     Ok(done)
 }

@@ -17,7 +17,7 @@ ghost use Rattle.trace_reader.specs.Steps.{trace_cores, trace_ops};
 ghost use Rattle.report.specs.Runs.{is_all_done, seen_by};
 
 use crate::one_run::{Ran, run_by_policy, run_by_threads, run_text};
-use crate::outputs::{Report, layout_of, put_out};
+use crate::outputs::{Report, layout_of, write_report};
 use crate::texts::trace_of;
 use byte_streams::{Sink, Source};
 use event_counts::Counter;
@@ -75,7 +75,7 @@ pub fn run_trace<R: Threads + Clock + Sync, S: Source, K: Sink>(
     let done = Done {
         all_done: report.all_done,
     };
-    put_out(sink, &report.text, done)
+    write_report(sink, &report.text, done)
 }
 
 // The report on a trace, or its records.

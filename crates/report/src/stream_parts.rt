@@ -12,7 +12,7 @@ ghost use Rattle.report.specs.StreamParts.{HasRun, IsNotWritten, IsRunning, ahea
 ghost use Rattle.report.specs.StreamParts.{text_if, text_unless};
 ghost use Rattle.report.specs.Streams.{IsStreamFault, stream_config};
 
-use crate::outputs::{layout_of, put_text};
+use crate::outputs::{layout_of, write_text};
 use crate::texts::refusal;
 use byte_streams::{Sink, Source};
 use interleaving_core::Config;
@@ -99,7 +99,7 @@ pub(crate) fn read_rest<S: Source>(run: &mut StreamedRun, source: &mut S) -> Res
 }
 
 /// Writes the text of records, if they are asked for.
-pub(crate) fn put_records<K: Sink>(
+pub(crate) fn write_records<K: Sink>(
     alloc: Global,
     sink: &mut K,
     asked: bool,
@@ -118,7 +118,7 @@ pub(crate) fn put_records<K: Sink>(
     let Ok(text) = records_text(alloc, records) else {
         return Err(RunError::NoMemory);
     };
-    put_text(sink, &text)
+    write_text(sink, &text)
 }
 
 // The report on a run that has ended.
@@ -139,7 +139,7 @@ fn ended_text(alloc: Global, layout: Layout, run: &StreamedRun) -> Result<Vec<u8
 }
 
 /// Writes the report on a run that has ended, unless its records are asked for.
-pub(crate) fn put_report<K: Sink>(
+pub(crate) fn write_end_report<K: Sink>(
     alloc: Global,
     sink: &mut K,
     options: &StreamOptions,
@@ -158,5 +158,5 @@ pub(crate) fn put_report<K: Sink>(
     let Ok(text) = ended_text(alloc, layout_of(options.json), run) else {
         return Err(RunError::NoMemory);
     };
-    put_text(sink, &text)
+    write_text(sink, &text)
 }

@@ -13,7 +13,7 @@ ghost use Rattle.report.specs.Streams.{HasNoStream, IsBegun, IsStreamReport, IsS
 use crate::progress::tell_progress;
 use crate::reports::is_all_done;
 use crate::stream_parts::{
-    asks_words, make_piece, put_records, put_report, read_rest, stream_config,
+    asks_words, make_piece, read_rest, stream_config, write_end_report, write_records,
 };
 use byte_streams::{Sink, Source};
 use interleaving_core::Config;
@@ -166,7 +166,7 @@ fn stream_in_pieces<S: Source, K: Sink, E: Sink>(
             Ok(goes_on) => goes_on,
             Err(error) => return Err(error),
         };
-        if let Err(error) = put_records(alloc, sink, options.records, run.done()) {
+        if let Err(error) = write_records(alloc, sink, options.records, run.done()) {
             return Err(error);
         }
         tells = tell_progress(errors, tells, options.progress, before, run);
@@ -174,7 +174,7 @@ fn stream_in_pieces<S: Source, K: Sink, E: Sink>(
     if let Err(error) = read_rest(run, source) {
         return Err(error);
     }
-    if let Err(error) = put_report(alloc, sink, options, run) {
+    if let Err(error) = write_end_report(alloc, sink, options, run) {
         return Err(error);
     }
     Ok(Done {

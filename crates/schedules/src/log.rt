@@ -213,7 +213,7 @@ pub(crate) fn step<W: Watcher, K: History>(
 
 // The same for the delivery of a message. Where `waits` is set it is held, and no line need leave its bank for it.
 #[inline(always)]
-pub(crate) fn step_told<W: Watcher, K: History>(
+pub(crate) fn step_delivery<W: Watcher, K: History>(
     log: &mut Log<W>,
     system: &mut System<K>,
     number: MsgNo,
@@ -228,7 +228,7 @@ pub(crate) fn step_told<W: Watcher, K: History>(
     if log.watcher.prepare(system, &event).is_err() {
         return Err(End::NoMemory);
     }
-    let (plain, is_waiting) = system.step_told(number);
+    let (plain, is_waiting) = system.step_delivery(number);
     *waits = is_waiting;
     log.settle(system, &event, plain)
 }

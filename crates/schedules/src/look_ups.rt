@@ -37,7 +37,7 @@ pub(crate) fn unfinished<P: Program>(programs: &[P]) -> u64
 
 // Gives a core's program what its next step received.
 #[inline(always)]
-fn give_done<P: Program>(programs: &mut [P], core: u32, received: Option<u64>)
+fn give_received<P: Program>(programs: &mut [P], core: u32, received: Option<u64>)
     ensures { programs.new ≡ done_in P.acts programs.old core received }
 {
     let at = core as usize;
@@ -46,20 +46,25 @@ fn give_done<P: Program>(programs: &mut [P], core: u32, received: Option<u64>)
     }
 }
 
-// Tells a core's program what its next step received, and asks whether it has another one.
-fn tell_done<P: Program, W>(programs: &mut [P], log: &mut Log<W>, core: u32, received: Option<u64>)
+// Tells a core's program that its next step is done, and asks whether it has another one.
+fn mark_step_done<P: Program, W>(
+    programs: &mut [P],
+    log: &mut Log<W>,
+    core: u32,
+    received: Option<u64>,
+)
     ensures done { programs.new ≡ done_in P.acts programs.old core received }
     ensures told { IsTold P.acts programs.old log.old programs.new log.new }
 {
-    give_done(programs, core, received);
+    give_received(programs, core, received);
     if core >= 64 {
         return;
     }
     log.note_next(core, next_in(programs, core).is_some());
 }
 
-// Tells a core's program of a completion, which the machine's last record is of.
-pub(crate) fn tell<P: Program, W, K: History>(
+// Tells a core's program that its operation is done, if that completed: the machine's last record is of it.
+pub(crate) fn mark_operation_done<P: Program, W, K: History>(
     system: &System<K>,
     programs: &mut [P],
     log: &mut Log<W>,
@@ -75,11 +80,11 @@ pub(crate) fn tell<P: Program, W, K: History>(
     let Some(record) = system.last_record() else {
         return;
     };
-    tell_done(programs, log, record.core, record.received);
+    mark_step_done(programs, log, record.core, record.received);
 }
 
-// Tells a core's program that it has advanced.
-pub(crate) fn tell_advance<P: Program, W>(
+// Tells a core's program that its advance is done, if the core advanced.
+pub(crate) fn mark_advance_done<P: Program, W>(
     programs: &mut [P],
     log: &mut Log<W>,
     core: u32,
@@ -92,7 +97,7 @@ pub(crate) fn tell_advance<P: Program, W>(
     if !is_advanced(plain) {
         return;
     }
-    tell_done(programs, log, core, None);
+    mark_step_done(programs, log, core, None);
 }
 
 // Whether a core has no open operation and its program no next step.

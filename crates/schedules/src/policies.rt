@@ -14,7 +14,7 @@ use crate::log::Log;
 use crate::pace::Pace;
 use crate::policy::Policy;
 use crate::round::Rounds;
-use crate::seeds::order_as_before;
+use crate::seeds::restore_order;
 use crate::watcher::Watcher;
 use interleaving_core::{History, System};
 use programs::End;
@@ -131,7 +131,7 @@ fn finish_on<P: Program, W: Watcher, K: History>(
         Policy::Seed(_) => {
             let had_order = system.keeps_order();
             let end = finish(&mut pace.seeds, system, programs, log, limit);
-            order_as_before(system, had_order);
+            restore_order(system, had_order);
             end
         }
     }

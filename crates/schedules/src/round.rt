@@ -8,7 +8,7 @@ ghost use Rattle.schedules.specs.Notes.{Did, at};
 use crate::log::Log;
 use crate::look_ups::next_in;
 use crate::schedule::Schedule;
-use crate::turn::{attempt, deliver, do_step, make};
+use crate::turn::{attempt, deliver, do_step, make_event};
 use crate::watcher::Watcher;
 use interleaving_core::{Event, History, System};
 use network::MsgNo;
@@ -82,7 +82,7 @@ fn try_core<P: Program, W: Watcher, K: History>(
         (at system.new programs.new log.new) }
 {
     if attempt(system, programs, log, core)? {
-        return make(system, programs, log, &Event::Attempt(core));
+        return make_event(system, programs, log, &Event::Attempt(core));
     }
     Ok(())
 }

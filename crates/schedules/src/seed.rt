@@ -17,7 +17,7 @@ ghost use Rattle.schedules.specs.SeedViews.{IsLine};
 use crate::log::Log;
 use crate::look_ups::next_in;
 use crate::schedule::Schedule;
-use crate::turn::{attempt, deliver, do_step, make};
+use crate::turn::{attempt, deliver, do_step, make_event};
 use crate::watcher::Watcher;
 use interleaving_core::{Event, History, System, with_bit};
 use network::LineNo;
@@ -169,7 +169,7 @@ fn advance<P: Program, W: Watcher, K: History>(
     if cores == 0 {
         return Ok(());
     }
-    make(system, programs, log, &Event::Advance(b % cores))
+    make_event(system, programs, log, &Event::Advance(b % cores))
 }
 
 // How many lines all holders have together.
@@ -233,7 +233,7 @@ fn evict<P: Program, W: Watcher, H: Holder, K: History>(
     let Some((holder, line)) = drawn else {
         return Ok(());
     };
-    make(system, programs, log, &H::eviction(holder, line))
+    make_event(system, programs, log, &H::eviction(holder, line))
 }
 
 // The cores that do something next: core c is one exactly if bit c is set.

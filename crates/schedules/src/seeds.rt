@@ -15,7 +15,7 @@ use programs::program::Program;
 use std::alloc::Global;
 
 // After a run the machine keeps its lines in rising order exactly if it did before. The memory for that stays.
-pub(crate) fn order_as_before<K: History>(system: &mut System<K>, had_order: bool)
+pub(crate) fn restore_order<K: History>(system: &mut System<K>, had_order: bool)
     ensures { system.new ≡ system.old }
 {
     if !had_order {
@@ -50,6 +50,6 @@ pub fn drive_seed<P: Program>(
     let mut schedule = Seeds::new(seed);
     let had_order = system.keeps_order();
     let driven = drive(alloc, system, programs, &mut schedule, limit);
-    order_as_before(system, had_order);
+    restore_order(system, had_order);
     driven
 }

@@ -5,17 +5,17 @@ ghost use Rattle.schedules.specs.Parts.{Does, Advances, one, finds_no_place, tri
 ghost use Rattle.schedules.specs.RoundSchedule.{step_action};
 ghost use Rattle.schedules.specs.Notes.{Did, at};
 
-use crate::log::{Log, is_evicted, is_held, is_no_room, step, step_told, try_core};
-use crate::look_ups::{tell, tell_advance};
+use crate::log::{Log, is_evicted, is_held, is_no_room, step, step_delivery, try_core};
+use crate::look_ups::{mark_advance_done, mark_operation_done};
 use crate::watcher::Watcher;
 use interleaving_core::{Event, History, System};
 use network::MsgNo;
 use programs::program::Program;
 use programs::{End, Step};
 
-// An event that nothing follows.
+// Makes an event that nothing follows.
 #[inline(always)]
-pub(crate) fn make<P: Program, W: Watcher, K: History>(
+pub(crate) fn make_event<P: Program, W: Watcher, K: History>(
     system: &mut System<K>,
     programs: &mut [P],
     log: &mut Log<W>,
@@ -25,7 +25,7 @@ pub(crate) fn make<P: Program, W: Watcher, K: History>(
         (at system.new programs.new log.new) }
 {
     let plain = step(log, system, event)?;
-    tell(system, programs, log, &plain);
+    mark_operation_done(system, programs, log, &plain);
     Ok(())
 }
 
@@ -46,7 +46,7 @@ pub(crate) fn attempt<P: Program, W: Watcher, K: History>(
         evict::<P, W, K>(system, log, core)?;
         return Ok(true);
     }
-    tell(system, programs, log, &plain);
+    mark_operation_done(system, programs, log, &plain);
     Ok(false)
 }
 
@@ -79,7 +79,7 @@ pub(crate) fn deliver<P: Program, W: Watcher, K: History>(
         (at system.old programs log.old) result (at system.new programs log.new) }
 {
     let mut waits = false;
-    let plain = step_told(log, system, number, &mut waits)?;
+    let plain = step_delivery(log, system, number, &mut waits)?;
     if waits {
         return Ok(());
     }
@@ -136,7 +136,7 @@ fn advance<P: Program, W: Watcher, K: History>(
         (at system.new programs.new log.new) }
 {
     let plain = step(log, system, &Event::Advance(core))?;
-    tell_advance(programs, log, core, &plain);
+    mark_advance_done(programs, log, core, &plain);
     Ok(())
 }
 
@@ -153,7 +153,7 @@ pub(crate) fn do_step<P: Program, W: Watcher, K: History>(
         (at system.new programs.new log.new) }
 {
     match *next {
-        Step::Op(op) => make(system, programs, log, &Event::Issue(core, op)),
+        Step::Op(op) => make_event(system, programs, log, &Event::Issue(core, op)),
         Step::Advance => advance(system, programs, log, core),
     }
 }

@@ -20,7 +20,7 @@ fn word_in(words: &[u64], address: WordAddr) -> u64
 }
 
 // Zeros behind the words, until there are so many words.
-fn reach(words: &mut Vec<u64>, count: usize) -> Result<(), AllocError>
+fn extend_words(words: &mut Vec<u64>, count: usize) -> Result<(), AllocError>
     requires { length words.old.items ≤ count }
     ensures count { OnOk result (length words.new.items ≡ count) }
     ensures same { OnOk result ((value : ℕ) → with_word_in words.new.items count value
@@ -41,7 +41,7 @@ fn set_word(words: &mut Vec<u64>, address: WordAddr, value: u64) -> Result<(), A
         words[at] = value;
         return Ok(());
     }
-    reach(words, at)?;
+    extend_words(words, at)?;
     words.push(value)?;
     Ok(())
 }

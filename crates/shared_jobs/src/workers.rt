@@ -52,7 +52,7 @@ pub fn work<X: Drop, S: Drop, J: Jobs<X, S>, G: Gate>(
         return;
     };
     loop {
-        match do_one(numbers, jobs, gate, count, worker, state) {
+        match run_next_job(numbers, jobs, gate, count, worker, state) {
             Ok(next) => state = next,
             Err(stop) => {
                 worker.stop = Some(stop);
@@ -63,7 +63,7 @@ pub fn work<X: Drop, S: Drop, J: Jobs<X, S>, G: Gate>(
 }
 
 // Claims one job, runs it and keeps its result. Gives the state back, or says why the worker stops.
-fn do_one<X: Drop, S: Drop, J: Jobs<X, S>, G: Gate>(
+fn run_next_job<X: Drop, S: Drop, J: Jobs<X, S>, G: Gate>(
     numbers: &Numbers,
     jobs: &J,
     gate: &G,
@@ -94,7 +94,7 @@ fn do_one<X: Drop, S: Drop, J: Jobs<X, S>, G: Gate>(
     if number >= count {
         return Err(Stop::NoMoreJobs);
     }
-    let Ok(next) = do_claimed(jobs, gate, worker, state, number) else {
+    let Ok(next) = run_claimed_job(jobs, gate, worker, state, number) else {
         return Err(Stop::Refused);
     };
     Ok(next)
@@ -102,7 +102,7 @@ fn do_one<X: Drop, S: Drop, J: Jobs<X, S>, G: Gate>(
 
 // Runs a job that was claimed, and keeps its result, for which there is a place. AllocError if an allocation of the
 // job's fails.
-fn do_claimed<X: Drop, S: Drop, J: Jobs<X, S>, G: Gate>(
+fn run_claimed_job<X: Drop, S: Drop, J: Jobs<X, S>, G: Gate>(
     jobs: &J,
     gate: &G,
     worker: &mut Worker<X>,

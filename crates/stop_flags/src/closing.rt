@@ -6,7 +6,7 @@ ghost use Rattle.stop_flags.specs.Signalers.{AreAllSignalers};
 
 use crate::signaler::Signaler;
 use crate::signals::Signals;
-use crate::steps::{FlagSeat, FlagTable, meet};
+use crate::steps::{FlagSeat, FlagTable, join_view};
 
 impl Signals {
     /// Gives up the signals and all their signalers. Together these have finished as many programs as the last look of
@@ -34,7 +34,7 @@ fn join_all(table: &FlagTable, seat: &mut FlagSeat, mut signalers: Vec<Signaler>
 {
     while let Some(signaler) = signalers.pop() {
         let other = leave(signaler);
-        meet(table, seat, other);
+        join_view(table, seat, other);
     }
 }
 

@@ -5,7 +5,7 @@ ghost use Rattle.stop_flags.specs.Signalers.{AreNewSignalers, AllNewSignalers, H
 
 use crate::signaler::Signaler;
 use crate::signals::Signals;
-use crate::steps::{FlagSeat, make};
+use crate::steps::{FlagSeat, make_seat};
 use crate::words::Said;
 use atomic_table::Table;
 use std::alloc::{AllocError, Global};
@@ -46,7 +46,7 @@ fn open_others(
 {
     let mut others = Vec::new(alloc);
     for number in 1..signals.workers {
-        let seat = make(&signals.table.shared, first);
+        let seat = make_seat(&signals.table.shared, first);
         others.push(new_signaler(seat))?;
     }
     Ok(others)

@@ -3,7 +3,7 @@ ghost use Rattle.std.specs.Prelude.{◌≡◌, ℕ, ◌≤◌, ◌<◌, true, Is
 ghost use Rattle.stop_flags.specs.Ties.{SignalerTied};
 
 use crate::signals::Signals;
-use crate::steps::{FlagSeat, hear_finished, hear_stopped, tell_finished, tell_stopped};
+use crate::steps::{FlagSeat, read_finished, read_stopped, signal_finished, signal_stopped};
 use crate::words::{Look, Said, TooMany};
 
 // How many programs a signaler finishes at most.
@@ -35,7 +35,7 @@ impl Signaler {
         if self.said.finished >= LIMIT {
             return Err(TooMany);
         }
-        tell_finished(&signals.table.shared, &mut self.seat);
+        signal_finished(&signals.table.shared, &mut self.seat);
         self.said.finished += 1;
         Ok(())
     }
@@ -48,7 +48,7 @@ impl Signaler {
             (last_look self.new ≡ last_look self.old) }
         ensures told { self.new.said ≡ has_stopped self.old.said }
     {
-        tell_stopped(&signals.table.shared, &mut self.seat);
+        signal_stopped(&signals.table.shared, &mut self.seat);
         self.said.stops = true;
     }
 
@@ -64,8 +64,8 @@ impl Signaler {
         ensures by_some { result.is_stopped ≡ true →
             SomeStopped signals.now.workers self.old.said }
     {
-        let finished = hear_finished(&signals.table.shared, &mut self.seat);
-        let stopped = hear_stopped(&signals.table.shared, &mut self.seat);
+        let finished = read_finished(&signals.table.shared, &mut self.seat);
+        let stopped = read_stopped(&signals.table.shared, &mut self.seat);
         Look {
             finished,
             is_stopped: stopped == 1,

@@ -74,7 +74,7 @@ impl Join<Known> for Meets {
 }
 
 /// Adds 1 to the word of the finished programs.
-pub fn tell_finished(table: &FlagTable, seat: &mut FlagSeat)
+pub fn signal_finished(table: &FlagTable, seat: &mut FlagSeat)
     requires table { Belongs seat.old.table_id table.now.table_id table.now.key }
     requires live { seat.old.me.0.spent ≡ false }
     requires few { seat.old.me.0.mine.said.finished < 4294967296 }
@@ -85,7 +85,7 @@ pub fn tell_finished(table: &FlagTable, seat: &mut FlagSeat)
 }
 
 /// Makes the word of the stop 1, whether it is so already or not.
-pub fn tell_stopped(table: &FlagTable, seat: &mut FlagSeat)
+pub fn signal_stopped(table: &FlagTable, seat: &mut FlagSeat)
     requires table { Belongs seat.old.table_id table.now.table_id table.now.key }
     requires live { seat.old.me.0.spent ≡ false }
     ensures table { (seat.new.table_id ≡ seat.old.table_id) × (seat.new.id ≡ seat.old.id) }
@@ -95,7 +95,7 @@ pub fn tell_stopped(table: &FlagTable, seat: &mut FlagSeat)
 }
 
 /// Reads the word of the finished programs.
-pub fn hear_finished(table: &FlagTable, seat: &mut FlagSeat) -> u64
+pub fn read_finished(table: &FlagTable, seat: &mut FlagSeat) -> u64
     requires table { Belongs seat.old.table_id table.now.table_id table.now.key }
     requires live { seat.old.me.0.spent ≡ false }
     ensures table { (seat.new.table_id ≡ seat.old.table_id) × (seat.new.id ≡ seat.old.id) }
@@ -105,7 +105,7 @@ pub fn hear_finished(table: &FlagTable, seat: &mut FlagSeat) -> u64
 }
 
 /// Reads the word of the stop.
-pub fn hear_stopped(table: &FlagTable, seat: &mut FlagSeat) -> u64
+pub fn read_stopped(table: &FlagTable, seat: &mut FlagSeat) -> u64
     requires table { Belongs seat.old.table_id table.now.table_id table.now.key }
     requires live { seat.old.me.0.spent ≡ false }
     ensures table { (seat.new.table_id ≡ seat.old.table_id) × (seat.new.id ≡ seat.old.id) }
@@ -116,7 +116,7 @@ pub fn hear_stopped(table: &FlagTable, seat: &mut FlagSeat) -> u64
 
 /// Makes the next signaler's seat.
 #[tactic(auto, using(crate::proofs::Tells::splitting))]
-pub fn make(table: &FlagTable, first: &mut FlagSeat) -> FlagSeat
+pub fn make_seat(table: &FlagTable, first: &mut FlagSeat) -> FlagSeat
     requires table { Belongs first.old.table_id table.now.table_id table.now.key }
     requires more { (first.old.me.0.spent ≡ false) × (0 < first.old.me.0.made) ×
         (first.old.me.0.made < table.now.key) }
@@ -134,7 +134,7 @@ pub fn make(table: &FlagTable, first: &mut FlagSeat) -> FlagSeat
 
 /// Takes in what another seat knows, which is then given up.
 #[tactic(auto, using(crate::proofs::Tells::joining))]
-pub fn meet(table: &FlagTable, seat: &mut FlagSeat, other: FlagSeat)
+pub fn join_view(table: &FlagTable, seat: &mut FlagSeat, other: FlagSeat)
     requires table { Belongs seat.old.table_id table.now.table_id table.now.key ×
         (other.table_id ≡ table.now.table_id) }
     requires live { (seat.old.me.0.spent ≡ false) × (other.me.0.spent ≡ false) ×

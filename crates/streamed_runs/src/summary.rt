@@ -38,7 +38,7 @@ fn with_kind(kinds: Kinds, op: Op) -> Kinds
 
 // Whether the record is of a load with a later write of its word before it. A write is kept as the latest of its word.
 // (`physiological_order::stale` does the same with a list that is there at once, and counts its looks.)
-fn visit(latest: &mut NumberMap<u64>, visited: &Record) -> Result<bool, AllocError>
+fn check_stale_hit(latest: &mut NumberMap<u64>, visited: &Record) -> Result<bool, AllocError>
     ensures stale { IfOk result (λ stale.
         stale ≡ stale_by latest.old visited.now.op visited.now.ts) }
     ensures kept { OnOk result
@@ -76,7 +76,7 @@ impl Summary {
     fn count(&mut self, visited: &Record) -> Result<(), AllocError>
         ensures { OnOk result (self.new ≡ counted self.old visited.now) }
     {
-        let is_stale = visit(&mut self.latest, visited)?;
+        let is_stale = check_stale_hit(&mut self.latest, visited)?;
         self.kinds = with_kind(self.kinds, visited.op);
         self.stale = more_if(is_stale, self.stale);
         Ok(())

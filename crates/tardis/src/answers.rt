@@ -47,11 +47,11 @@ pub fn answer<R: Threads + Clock + Sync, F: Files, K: Sink, E: Sink>(
     match read_words(alloc, words) {
         Ok(job) => {
             let came = run_job(rt, alloc, files, &job, out, errors);
-            tell_result(errors, &came);
+            write_run_error(errors, &came);
             exit_status(&came)
         }
         Err(error) => {
-            tell(errors, words_text(&error));
+            write_error(errors, words_text(&error));
             words_status(&error)
         }
     }
@@ -63,7 +63,7 @@ pub fn refuse<E: Sink>(errors: &mut E) -> u8
     ensures told { TextGoesOut (E.contents errors.old) (E.contents errors.new)
         (E.failures errors.old) (E.failures errors.new) bad_words }
 {
-    tell(errors, b"tardis: bad command line\n");
+    write_error(errors, b"tardis: bad command line\n");
     3
 }
 
@@ -74,7 +74,7 @@ pub fn refuse_memory<E: Sink>(errors: &mut E) -> u8
         (E.failures errors.old) (E.failures errors.new) (words_text WordsError.NoMemory) }
 {
     let error = WordsError::NoMemory;
-    tell(errors, words_text(&error));
+    write_error(errors, words_text(&error));
     words_status(&error)
 }
 
@@ -99,7 +99,7 @@ fn words_status(error: &WordsError) -> u8
 }
 
 // Tells why there is no report, if there is none.
-fn tell_result<E: Sink>(errors: &mut E, came: &Result<Done, RunError>)
+fn write_run_error<E: Sink>(errors: &mut E, came: &Result<Done, RunError>)
     ensures { TextGoesOut (E.contents errors.old) (E.contents errors.new)
         (E.failures errors.old) (E.failures errors.new) (came_text came.now) }
 {
@@ -107,11 +107,11 @@ fn tell_result<E: Sink>(errors: &mut E, came: &Result<Done, RunError>)
         Ok(_) => ErrorLine::new(),
         Err(error) => error_line(error),
     };
-    tell(errors, line.as_slice());
+    write_error(errors, line.as_slice());
 }
 
 // Writes a text, or what goes out of it.
-fn tell<E: Sink>(errors: &mut E, text: &[u8])
+fn write_error<E: Sink>(errors: &mut E, text: &[u8])
     ensures { TextGoesOut (E.contents errors.old) (E.contents errors.new)
         (E.failures errors.old) (E.failures errors.new) text.now }
 {

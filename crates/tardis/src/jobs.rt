@@ -32,21 +32,21 @@ pub(crate) fn run_job<R: Threads + Clock + Sync, F: Files, K: Sink, E: Sink>(
         (F.opens files.now) job.now out.old out.new errors.old errors.new result }
 {
     match job {
-        Job::Litmus(options, name) => litmus_of(rt, alloc, files.open(name), options, out),
-        Job::Ends(options, name) => ends_of(alloc, files.open(name), options, out),
-        Job::Trace(options, name) => trace_of(rt, alloc, files.open(name), options, out),
-        Job::Stream(options, name) => stream_of(alloc, files.open(name), options, out, errors),
+        Job::Litmus(options, name) => run_opened_litmus(rt, alloc, files.open(name), options, out),
+        Job::Ends(options, name) => list_opened_ends(alloc, files.open(name), options, out),
+        Job::Trace(options, name) => run_opened_trace(rt, alloc, files.open(name), options, out),
+        Job::Stream(options, name) => stream_opened(alloc, files.open(name), options, out, errors),
         Job::Check(options, opening, trace, records) => {
             let opening = open_named(files, *opening);
             let trace = files.open(trace);
             let records = files.open(records);
-            check_of(alloc, options, opening, trace, records, out)
+            check_files(alloc, options, opening, trace, records, out)
         }
     }
 }
 
 // Runs the litmus test of a file that was opened.
-fn litmus_of<R: Threads + Clock + Sync, S: Source + Drop, K: Sink>(
+fn run_opened_litmus<R: Threads + Clock + Sync, S: Source + Drop, K: Sink>(
     rt: &R,
     alloc: Global,
     opened: Result<S, DeviceError>,
@@ -58,12 +58,12 @@ fn litmus_of<R: Threads + Clock + Sync, S: Source + Drop, K: Sink>(
         out.old out.new result }
 {
     match opened {
-        Ok(file) => litmus_on(rt, alloc, file, options, out),
+        Ok(file) => run_litmus_file(rt, alloc, file, options, out),
         Err(DeviceError) => Err(RunError::Read),
     }
 }
 
-fn litmus_on<R: Threads + Clock + Sync, S: Source + Drop, K: Sink>(
+fn run_litmus_file<R: Threads + Clock + Sync, S: Source + Drop, K: Sink>(
     rt: &R,
     alloc: Global,
     file: S,
@@ -79,7 +79,7 @@ fn litmus_on<R: Threads + Clock + Sync, S: Source + Drop, K: Sink>(
 }
 
 // Lists the ends of the litmus test of a file that was opened.
-fn ends_of<S: Source + Drop, K: Sink>(
+fn list_opened_ends<S: Source + Drop, K: Sink>(
     alloc: Global,
     opened: Result<S, DeviceError>,
     options: &EndsOptions,
@@ -90,12 +90,12 @@ fn ends_of<S: Source + Drop, K: Sink>(
         out.old out.new result }
 {
     match opened {
-        Ok(file) => ends_on(alloc, file, options, out),
+        Ok(file) => list_ends_of_file(alloc, file, options, out),
         Err(DeviceError) => Err(RunError::Read),
     }
 }
 
-fn ends_on<S: Source + Drop, K: Sink>(
+fn list_ends_of_file<S: Source + Drop, K: Sink>(
     alloc: Global,
     file: S,
     options: &EndsOptions,
@@ -110,7 +110,7 @@ fn ends_on<S: Source + Drop, K: Sink>(
 }
 
 // Runs the trace of a file that was opened.
-fn trace_of<R: Threads + Clock + Sync, S: Source + Drop, K: Sink>(
+fn run_opened_trace<R: Threads + Clock + Sync, S: Source + Drop, K: Sink>(
     rt: &R,
     alloc: Global,
     opened: Result<S, DeviceError>,
@@ -122,12 +122,12 @@ fn trace_of<R: Threads + Clock + Sync, S: Source + Drop, K: Sink>(
         out.old out.new result }
 {
     match opened {
-        Ok(file) => trace_on(rt, alloc, file, options, out),
+        Ok(file) => run_trace_file(rt, alloc, file, options, out),
         Err(DeviceError) => Err(RunError::Read),
     }
 }
 
-fn trace_on<R: Threads + Clock + Sync, S: Source + Drop, K: Sink>(
+fn run_trace_file<R: Threads + Clock + Sync, S: Source + Drop, K: Sink>(
     rt: &R,
     alloc: Global,
     file: S,
@@ -143,7 +143,7 @@ fn trace_on<R: Threads + Clock + Sync, S: Source + Drop, K: Sink>(
 }
 
 // Runs the trace of a file that was opened while it reads it.
-fn stream_of<S: Source + Drop, K: Sink, E: Sink>(
+fn stream_opened<S: Source + Drop, K: Sink, E: Sink>(
     alloc: Global,
     opened: Result<S, DeviceError>,
     options: &StreamOptions,
@@ -158,12 +158,12 @@ fn stream_of<S: Source + Drop, K: Sink, E: Sink>(
     ensures quiet { IfErr opened (λ error. errors.new ≡ errors.old) }
 {
     match opened {
-        Ok(file) => stream_on(alloc, file, options, out, errors),
+        Ok(file) => stream_file(alloc, file, options, out, errors),
         Err(DeviceError) => Err(RunError::Read),
     }
 }
 
-fn stream_on<S: Source + Drop, K: Sink, E: Sink>(
+fn stream_file<S: Source + Drop, K: Sink, E: Sink>(
     alloc: Global,
     file: S,
     options: &StreamOptions,
@@ -192,7 +192,7 @@ fn open_named<F: Files>(files: &F, name: Option<&str>) -> Option<Result<F::File,
 
 // Checks the records of a file against the trace of another, where all were opened, over the memory that a third one
 // gives if it is there.
-fn check_of<S: Source + Drop, K: Sink>(
+fn check_files<S: Source + Drop, K: Sink>(
     alloc: Global,
     options: &CheckOptions,
     opening: Option<Result<S, DeviceError>>,
@@ -224,15 +224,15 @@ fn check_opened<S: Source + Drop, K: Sink>(
     match opening {
         None => {
             let zeros = Memory::new(alloc);
-            check_on(alloc, options, &zeros, trace, records, out)
+            check_over_memory(alloc, options, &zeros, trace, records, out)
         }
-        Some(Ok(opening)) => check_over(alloc, options, opening, trace, records, out),
+        Some(Ok(opening)) => check_over_opening(alloc, options, opening, trace, records, out),
         Some(Err(DeviceError)) => Err(RunError::Read),
     }
 }
 
 // Reads an opening, and then checks over its memory.
-fn check_over<S: Source + Drop, K: Sink>(
+fn check_over_opening<S: Source + Drop, K: Sink>(
     alloc: Global,
     options: &CheckOptions,
     opening: S,
@@ -245,12 +245,12 @@ fn check_over<S: Source + Drop, K: Sink>(
 {
     let mut source = opening;
     match opening_of(alloc, &mut source) {
-        Ok(memory) => check_on(alloc, options, &memory, trace, records, out),
+        Ok(memory) => check_over_memory(alloc, options, &memory, trace, records, out),
         Err(error) => Err(error),
     }
 }
 
-fn check_on<S: Source + Drop, K: Sink>(
+fn check_over_memory<S: Source + Drop, K: Sink>(
     alloc: Global,
     options: &CheckOptions,
     opening: &Memory,

@@ -32,8 +32,8 @@ pub record Expects (opening : Memory) (records : List Record) (number value : �
   pub writer_is : writer ≡ writer_after None (address faulty.op) before
 
 -- a kind and a number, and nothing that was expected
-abbrev pub alone : Told → Found
-alone told = record { kind = told.kind; number = told.number; expected = 0; source = 0; writer = 0 }
+abbrev pub without_expected : Told → Found
+without_expected told = record { kind = told.kind; number = told.number; expected = 0; source = 0; writer = 0 }
 
 -- a wrong value: 1 for the opening memory, 2 for a record
 abbrev pub wrong_value : (number expected : ℕ) → Option ℕ → Found
@@ -46,12 +46,12 @@ wrong_value number expected (Some writer) =
 abbrev pub IsFound : Memory → List Record → Verdict → Found → Type 0
 IsFound opening records (WrongValue number) found = (value : ℕ) × (writer : Option ℕ)
     × Expects opening records number value writer × (found ≡ wrong_value number value writer)
-IsFound opening records verdict found = found ≡ alone (verdict_told verdict)
+IsFound opening records verdict found = found ≡ without_expected (verdict_told verdict)
 
 -- the first item that has a fault is told, and this number
 abbrev pub IsRefused : {A : Type 0} → (A → ℕ) → List A → Found → (said number : ℕ) → Type 0
 IsRefused fault items found said number = (told : Told) × HasFirst fault items told.kind told.number
-    × (found ≡ alone told) × (number ≡ said)
+    × (found ≡ without_expected told) × (number ≡ said)
 
 -- 12 for the first word that has a fault; else 10 for the first operation; else 11 for the first record; else the
 -- number of the verdict, or 3 if an allocation for it failed

@@ -18,7 +18,7 @@ use Rattle.machine_table.specs.declared.event.Answer.TheVariants.{Delivered, Dro
 use Rattle.machine_table.specs.declared.event.Answer.TheVariants.{Advanced, Refused}
 use Rattle.machine_table.specs.RefusalNumbers.{number_of}
 use Rattle.tardis_c.specs.declared.system_parts.Place.{Place}
-use Rattle.tardis_c.specs.declared.system_parts.PlainAnswer.{PlainAnswer}
+use Rattle.tardis_c.specs.declared.system_parts.CAnswer.{CAnswer}
 use Rattle.tardis_c.specs.declared.system_parts.PlainMessage.{PlainMessage}
 use Rattle.tardis_c.specs.declared.system_parts.PlainOpen.{PlainOpen}
 use Rattle.tardis_c.specs.declared.system_parts.Carried.{Carried}
@@ -46,8 +46,8 @@ plain_record r = record {
 }
 
 -- an answer without a record: the record is zeros
-abbrev pub bare : (kind refusal : ℕ) → PlainAnswer
-bare kind refusal = record {
+abbrev pub answer_without_record : (kind refusal : ℕ) → CAnswer
+answer_without_record kind refusal = record {
   kind = kind;
   refusal = refusal;
   completed = record {
@@ -59,45 +59,45 @@ bare kind refusal = record {
   };
 }
 
-abbrev pub answer_of : Answer → PlainAnswer
-answer_of Issued = bare 0 0
-answer_of (Completed r) = record { kind = 1; refusal = 0; completed = plain_record r }
-answer_of Requested = bare 2 0
-answer_of Waiting = bare 3 0
-answer_of Idle = bare 4 0
-answer_of Delivered = bare 5 0
-answer_of Dropped = bare 6 0
-answer_of Held = bare 7 0
-answer_of Started = bare 8 0
-answer_of Evicted = bare 9 0
-answer_of Recalled = bare 10 0
-answer_of Advanced = bare 11 0
-answer_of (Refused refusal) = bare 12 (number_of refusal)
+abbrev pub c_answer : Answer → CAnswer
+c_answer Issued = answer_without_record 0 0
+c_answer (Completed r) = record { kind = 1; refusal = 0; completed = plain_record r }
+c_answer Requested = answer_without_record 2 0
+c_answer Waiting = answer_without_record 3 0
+c_answer Idle = answer_without_record 4 0
+c_answer Delivered = answer_without_record 5 0
+c_answer Dropped = answer_without_record 6 0
+c_answer Held = answer_without_record 7 0
+c_answer Started = answer_without_record 8 0
+c_answer Evicted = answer_without_record 9 0
+c_answer Recalled = answer_without_record 10 0
+c_answer Advanced = answer_without_record 11 0
+c_answer (Refused refusal) = answer_without_record 12 (number_of refusal)
 
 -- a message of this kind that carries nothing
-abbrev pub bare_of : ℕ → Carried
-bare_of kind = record { kind = kind; pts = 0; version = None; wts = 0; rts = 0; words = replicate 8 0 }
+abbrev pub carried_nothing : ℕ → Carried
+carried_nothing kind = record { kind = kind; pts = 0; version = None; wts = 0; rts = 0; words = replicate 8 0 }
 
 -- a line has the times of its last write and of its lease's end
-abbrev pub timed : ℕ → TimedLine → Carried
-timed kind line = record (bare_of kind) { wts = line.wts; rts = line.rts; words = line.words }
+abbrev pub carried_line : ℕ → TimedLine → Carried
+carried_line kind line = record (carried_nothing kind) { wts = line.wts; rts = line.rts; words = line.words }
 
 -- the kind of a message, and what it carries
-abbrev pub said : Body → Carried
-said (ShReq pts version) = record (bare_of 0) { pts = pts; version = version }
-said (ExReq version) = record (bare_of 1) { version = version }
-said (ShRep line) = timed 2 line
-said (ExRep line) = timed 3 line
-said (RenewRep rts) = record (bare_of 4) { rts = rts }
-said (UpgradeRep rts) = record (bare_of 5) { rts = rts }
-said FlushReq = bare_of 6
-said (WbReq rts) = record (bare_of 7) { rts = rts }
-said (FlushRep line) = timed 8 line
-said (WbRep line) = timed 9 line
-said DramLd = bare_of 10
-said (DramLdRep words) = record (bare_of 11) { words = words }
-said (DramSt words) = record (bare_of 12) { words = words }
-said DramStRep = bare_of 13
+abbrev pub carried_by : Body → Carried
+carried_by (ShReq pts version) = record (carried_nothing 0) { pts = pts; version = version }
+carried_by (ExReq version) = record (carried_nothing 1) { version = version }
+carried_by (ShRep line) = carried_line 2 line
+carried_by (ExRep line) = carried_line 3 line
+carried_by (RenewRep rts) = record (carried_nothing 4) { rts = rts }
+carried_by (UpgradeRep rts) = record (carried_nothing 5) { rts = rts }
+carried_by FlushReq = carried_nothing 6
+carried_by (WbReq rts) = record (carried_nothing 7) { rts = rts }
+carried_by (FlushRep line) = carried_line 8 line
+carried_by (WbRep line) = carried_line 9 line
+carried_by DramLd = carried_nothing 10
+carried_by (DramLdRep words) = record (carried_nothing 11) { words = words }
+carried_by (DramSt words) = record (carried_nothing 12) { words = words }
+carried_by DramStRep = carried_nothing 13
 
 -- what an end is, and its number
 abbrev pub end_of : Node → ℕ × ℕ
@@ -112,18 +112,18 @@ flag true = 1
 abbrev pub message_of : ℕ → Message → PlainMessage
 message_of number message = record {
   number = number;
-  kind = (said message.body).kind;
+  kind = (carried_by message.body).kind;
   from_kind = (end_of message.from).0;
   from = (end_of message.from).1;
   to_kind = (end_of message.to).0;
   to = (end_of message.to).1;
   line = message.line;
-  pts = (said message.body).pts;
-  has_version = flag (is_some (said message.body).version);
-  version = unwrap_or (said message.body).version 0;
-  wts = (said message.body).wts;
-  rts = (said message.body).rts;
-  words = (said message.body).words;
+  pts = (carried_by message.body).pts;
+  has_version = flag (is_some (carried_by message.body).version);
+  version = unwrap_or (carried_by message.body).version 0;
+  wts = (carried_by message.body).wts;
+  rts = (carried_by message.body).rts;
+  words = (carried_by message.body).words;
 }
 
 -- 0 without an open operation, 2 if its request is out, 1 if it isn't

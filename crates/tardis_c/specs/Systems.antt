@@ -17,12 +17,12 @@ use Rattle.tardis_c.specs.Arrays.{HaveNone}
 use Rattle.tardis_c.specs.Lacks.{HasSome}
 use Rattle.tardis_c.specs.Options.{run_options}
 use Rattle.tardis_c.specs.Plain.{op_of, operation_fault, word_fault, words_of}
-use Rattle.tardis_c.specs.SystemParts.{answer_of, capped, flag, message_of}
+use Rattle.tardis_c.specs.SystemParts.{c_answer, capped, flag, message_of}
 use Rattle.tardis_c.specs.declared.options.PlainOptions.{PlainOptions}
 use Rattle.tardis_c.specs.declared.plain.PlainOperation.{PlainOperation}
 use Rattle.tardis_c.specs.declared.plain.PlainWord.{PlainWord}
 use Rattle.tardis_c.specs.declared.system_looks.Totals.{Totals}
-use Rattle.tardis_c.specs.declared.system_parts.PlainAnswer.{PlainAnswer}
+use Rattle.tardis_c.specs.declared.system_parts.CAnswer.{CAnswer}
 use Rattle.tardis_c.specs.declared.system_parts.PlainMessage.{PlainMessage}
 
 -- without a machine 16, and nothing changes
@@ -43,8 +43,8 @@ Tells old new before after number look = Asked old new before after number (λ m
     (new ≡ Some machine) × ((after, number) ≡ told before (look machine)))
 
 -- lines are written over the front of others, as far as there are any
-abbrev pub put_over : (lines old : List ℕ) → List ℕ
-put_over lines old = take (length old) lines ++ drop (length lines) old
+abbrev pub overwrite_front : (lines old : List ℕ) → List ℕ
+overwrite_front lines old = take (length old) lines ++ drop (length lines) old
 
 -- where there is a part of this number its lines, unless an allocation failed; nothing where there is none
 abbrev pub AreLines : {E : Type 0} → Option (Result (Vec ℕ Global) E) → (seat seats : ℕ) → List ℕ → Type 0
@@ -58,7 +58,7 @@ abbrev pub TellsFound : {E : Type 0} → Option (Result (Vec ℕ Global) E) → 
 TellsFound None before after number = (after ≡ before) × (number ≡ 18)
 TellsFound (Some (Err e)) before after number = (after ≡ before) × (number ≡ 3)
 TellsFound (Some (Ok lines)) before after number =
-    (after ≡ (put_over lines.items before.0, length lines.items)) × (number ≡ 0)
+    (after ≡ (overwrite_front lines.items before.0, length lines.items)) × (number ≡ 0)
 
 -- the machine stays; a part that isn't there is 18; of one that is there the lines are told, or an allocation failed
 abbrev pub TellsLines : (old new : Option Machine) → (before after : List ℕ × ℕ) → (number seat : ℕ) →
@@ -67,17 +67,17 @@ TellsLines old new before after number seat seats look =
     Asked old new before after number (λ machine. (new ≡ Some machine)
     × (((nat_lt seat (seats machine) ≡ false) × (after ≡ before) × (number ≡ 18))
     ⊎ ((nat_lt seat (seats machine) ≡ true)
-    × (after ≡ (put_over (look machine) before.0, length (look machine))) × (number ≡ 0))
+    × (after ≡ (overwrite_front (look machine) before.0, length (look machine))) × (number ≡ 0))
     ⊎ ((nat_lt seat (seats machine) ≡ true) × (after ≡ before) × (number ≡ 3))))
 
 -- one event, and its answer
-abbrev pub Steps : (old new : Option Machine) → (before after : PlainAnswer) → (number : ℕ) → Event → Type 0
+abbrev pub Steps : (old new : Option Machine) → (before after : CAnswer) → (number : ℕ) → Event → Type 0
 Steps old new before after number event = Asked old new before after number (λ machine.
     (answer : Answer) × (next : Machine) × Stepped machine event answer next × (new ≡ Some next)
-    × (after ≡ answer_of answer) × (number ≡ 0))
+    × (after ≡ c_answer answer) × (number ≡ 0))
 
 -- an operation that has a fault is refused with 10
-pub record Issues (old new : Option Machine) (before after : PlainAnswer) (number : ℕ) (plain : PlainOperation) :
+pub record Issues (old new : Option Machine) (before after : CAnswer) (number : ℕ) (plain : PlainOperation) :
     Type 0 where
   pub right : operation_fault plain ≡ 0 → Steps old new before after number (Issue plain.core (op_of plain))
   pub wrong : operation_fault plain ≢ 0 → (new ≡ old) × (after ≡ before) × (number ≡ 10)

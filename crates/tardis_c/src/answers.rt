@@ -5,26 +5,30 @@ ghost use Rattle.tardis_c.specs.Answers.{CameTo, IsPut, report_number};
 use report::{Report, RunError};
 use run_results::error_line;
 
-/// Puts the report, or the line of the error, into the buffer if that has room for it, says how long it is, and answers
-/// its number.
-pub(crate) fn tell(came: &Result<Report, RunError>, buffer: &mut [u8], long: &mut usize) -> u32
+/// Writes the report, or the line of the error, into the buffer if that has room for it, says how long it is, and
+/// answers its number.
+pub(crate) fn write_result(
+    came: &Result<Report, RunError>,
+    buffer: &mut [u8],
+    long: &mut usize,
+) -> u32
     ensures { CameTo came.now buffer.old buffer.new long.new result }
 {
     match came {
         Ok(report) => {
-            let fits = put(&report.text, buffer, long);
+            let fits = write_text(&report.text, buffer, long);
             report_number(report.all_done, fits)
         }
         Err(error) => {
             let line = error_line(error);
-            let _fits = put(line.as_slice(), buffer, long);
+            let _fits = write_text(line.as_slice(), buffer, long);
             u32::from(error.number())
         }
     }
 }
 
-// Puts a text in front of what stands in the buffer, if that has room for it, and says how long it is.
-fn put(text: &[u8], buffer: &mut [u8], long: &mut usize) -> bool
+// Writes a text over the front of what stands in the buffer, if that has room for it, and says how long it is.
+fn write_text(text: &[u8], buffer: &mut [u8], long: &mut usize) -> bool
     ensures put { IsPut text.now buffer.old buffer.new long.new }
     ensures fits { result ≡ nat_le (length text.now) (length buffer.old) }
 {

@@ -101,14 +101,14 @@ fn issued_lists(alloc: Global, operations: &[PlainOperation]) -> Result<Vec<Vec<
     let mut lists: Vec<Vec<Op>> = Vec::new(alloc);
     for operation in operations {
         let core = operation.core as usize;
-        reach(alloc, &mut lists, core + 1)?;
+        extend_lists(alloc, &mut lists, core + 1)?;
         lists[core].push(op_of(operation))?;
     }
     Ok(lists)
 }
 
 // Lists without operations, up to a number of lists.
-fn reach(alloc: Global, lists: &mut Vec<Vec<Op>>, number: usize) -> Result<(), AllocError>
+fn extend_lists(alloc: Global, lists: &mut Vec<Vec<Op>>, number: usize) -> Result<(), AllocError>
     ensures long { OnOk result (number ≤ length lists.new.items) }
     ensures same { OnOk result ((core : ℕ) →
         issued_by lists.new.items core ≡ issued_by lists.old.items core) }

@@ -6,7 +6,7 @@ ghost use Rattle.physiological_order.specs.declared.operation.Record.{Record};
 ghost use Rattle.physiological_order.specs.declared.verdict.Verdict.TheVariants.{WrongValue};
 ghost use Rattle.physiological_order.specs.Faults.{IsVerdict};
 ghost use Rattle.physiological_order.specs.Order.{Before, address, flat};
-ghost use Rattle.tardis_c.specs.Histories.{IsFound, alone, wrong_value};
+ghost use Rattle.tardis_c.specs.Histories.{IsFound, without_expected, wrong_value};
 ghost use Rattle.tardis_c.specs.Writes.{IsEarlier, IsLastWrite, writes, written};
 
 use crate::arrays::{Told, verdict_told};
@@ -29,8 +29,8 @@ pub struct Found {
 }
 
 /// A kind and a number, where nothing was expected.
-pub(crate) fn alone(told: Told) -> Found
-    ensures { result ≡ alone told }
+pub(crate) fn without_expected(told: Told) -> Found
+    ensures { result ≡ without_expected told }
 {
     Found {
         kind: told.kind,
@@ -42,13 +42,13 @@ pub(crate) fn alone(told: Told) -> Found
 }
 
 /// What is found of records that have this verdict.
-pub(crate) fn found_by(memory: &Memory, records: &[Record], verdict: Verdict) -> Found
+pub(crate) fn found_of_verdict(memory: &Memory, records: &[Record], verdict: Verdict) -> Found
     requires { (issued : ℕ → List Op) × IsVerdict (flat memory.now) issued records.now verdict }
     ensures { IsFound (flat memory.now) records.now verdict result }
 {
     match verdict {
         Verdict::WrongValue(number) => wrong_value(memory, records, number),
-        _ => alone(verdict_told(verdict)),
+        _ => without_expected(verdict_told(verdict)),
     }
 }
 

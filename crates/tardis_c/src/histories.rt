@@ -6,7 +6,7 @@ ghost use Rattle.tardis_c.specs.Histories.{IsFound, IsHistory};
 ghost use Rattle.tardis_c.specs.Plain.{record_fault, record_of, words_of};
 
 use crate::arrays::{first_fault, records_of, verdict_number, verdict_on};
-use crate::expected::{Found, alone, found_by};
+use crate::expected::{Found, found_of_verdict, without_expected};
 use crate::plain::{PlainOperation, PlainRecord, PlainWord, store_of};
 use physiological_order::{Memory, Verdict};
 use std::alloc::{AllocError, Global};
@@ -27,15 +27,15 @@ pub extern "C" fn tardis_c_check_history(
     ensures { IsHistory opening.now operations.now records.now found.old found.new result }
 {
     if let Some(fault) = first_fault(opening) {
-        *found = alone(fault);
+        *found = without_expected(fault);
         return 12;
     }
     if let Some(fault) = first_fault(operations) {
-        *found = alone(fault);
+        *found = without_expected(fault);
         return 10;
     }
     if let Some(fault) = first_fault(records) {
-        *found = alone(fault);
+        *found = without_expected(fault);
         return 11;
     }
     match history_on(alloc, opening, operations, records, found) {
@@ -62,7 +62,7 @@ fn history_on(
     let memory = memory_of(alloc, opening)?;
     let records = records_of(alloc, records)?;
     let verdict = verdict_on(alloc, &memory, operations, &records)?;
-    *found = found_by(&memory, &records, verdict);
+    *found = found_of_verdict(&memory, &records, verdict);
     Ok(verdict)
 }
 

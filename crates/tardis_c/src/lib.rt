@@ -1,4 +1,4 @@
-//! The checker and the runner for callers in C and C++: a static library whose exports `tardis.h` declares.
+//! The checker and the runner for callers in C, C++ and Python: a static library whose exports `tardis.h` declares.
 #![tactic(auto)]
 
 mod answers;

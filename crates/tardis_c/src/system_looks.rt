@@ -5,8 +5,8 @@ ghost use Rattle.machine_theorem.specs.Coherence.{coherent, owners};
 ghost use Rattle.interleaving_core.specs.LookUps.{copies, entries, make_room, victim};
 ghost use Rattle.ranked_lines.specs.Rising.{sorted};
 ghost use Rattle.tardis_c.specs.SystemParts.{open_of, place_of, plain_record, victim_of};
-ghost use Rattle.tardis_c.specs.Systems.{AreLines, Tells, TellsFound, TellsLines, if_below, message_at, put_over};
-ghost use Rattle.tardis_c.specs.Systems.{told, totals_of};
+ghost use Rattle.tardis_c.specs.Systems.{AreLines, Tells, TellsFound, TellsLines, if_below, message_at};
+ghost use Rattle.tardis_c.specs.Systems.{overwrite_front, told, totals_of};
 
 use crate::plain::PlainRecord;
 use crate::system_parts::{
@@ -130,8 +130,8 @@ fn smaller(first: usize, second: usize) -> usize
 }
 
 // Writes lines over the front of others, as far as there are any.
-fn put_over(found: &[LineNo], lines: &mut [u64])
-    ensures { lines.new ≡ put_over found.now lines.old }
+fn overwrite_front(found: &[LineNo], lines: &mut [u64])
+    ensures { lines.new ≡ overwrite_front found.now lines.old }
 {
     for at in 0..smaller(found.len(), lines.len()) {
         let line = found[at];
@@ -140,7 +140,7 @@ fn put_over(found: &[LineNo], lines: &mut [u64])
 }
 
 // Writes what lines there are, and how many: 0, 18 if there is no such part, or 3 if an allocation failed.
-fn tell_lines(
+fn write_lines(
     found: Option<Result<Vec<LineNo>, AllocError>>,
     lines: &mut [u64],
     count: &mut usize,
@@ -152,14 +152,14 @@ fn tell_lines(
         Some(Err(AllocError)) => 3,
         Some(Ok(found)) => {
             *count = found.len();
-            put_over(&found, lines);
+            overwrite_front(&found, lines);
             0
         }
     }
 }
 
 // Writes what there is to tell: 0, or 18 if there is nothing.
-fn tell<T: Copy>(found: Option<T>, out: &mut T) -> u32
+fn write_found<T: Copy>(found: Option<T>, out: &mut T) -> u32
     ensures { (out.new, result) ≡ told out.old found }
 {
     match found {
@@ -205,7 +205,7 @@ pub extern "C" fn tardis_c_system_message_number(
     };
     let found = number_at(&system, index);
     put_back(machine, system);
-    tell(found, out)
+    write_found(found, out)
 }
 
 /// The record of the operation that completed as this one, counted from 0; 18 if there is none yet.
@@ -224,7 +224,7 @@ pub extern "C" fn tardis_c_system_record(
     };
     let found = record_at(&system, number);
     put_back(machine, system);
-    tell(found, out)
+    write_found(found, out)
 }
 
 /// The message in flight of a number; 18 if there is none.
@@ -243,7 +243,7 @@ pub extern "C" fn tardis_c_system_message(
     };
     let found = message_at(&system, number);
     put_back(machine, system);
-    tell(found, out)
+    write_found(found, out)
 }
 
 /// A core's open operation; 18 if there is no such core.
@@ -262,7 +262,7 @@ pub extern "C" fn tardis_c_system_open_operation(
     };
     let found = opened(&system, core);
     put_back(machine, system);
-    tell(found, out)
+    write_found(found, out)
 }
 
 /// The copy to evict from a core's cache to make a place for a line, if there is none; 18 if there is no such core.
@@ -282,7 +282,7 @@ pub extern "C" fn tardis_c_system_victim(
     };
     let found = victim(&system, core, line);
     put_back(machine, system);
-    tell(found, out)
+    write_found(found, out)
 }
 
 /// The bank and the line to evict so that a request that is held finds room.
@@ -360,7 +360,7 @@ pub extern "C" fn tardis_c_system_copies(
     };
     let found = copies_of(&system, core);
     put_back(machine, system);
-    tell_lines(found, lines, count)
+    write_lines(found, lines, count)
 }
 
 /// The numbers of the lines that a bank has Shared or Exclusive, in the same way.
@@ -380,5 +380,5 @@ pub extern "C" fn tardis_c_system_entries(
     };
     let found = entries_of(&system, bank);
     put_back(machine, system);
-    tell_lines(found, lines, count)
+    write_lines(found, lines, count)
 }

@@ -1,7 +1,8 @@
 //! Answers, messages and what else a machine shows, as C has them.
 ghost use Rattle.std.specs.Prelude.{◌≡◌};
-ghost use Rattle.tardis_c.specs.SystemParts.{answer_of, bare, bare_of, capped, end_of, message_of, open_of};
-ghost use Rattle.tardis_c.specs.SystemParts.{place_of, plain_op, plain_record, said, timed, victim_of};
+ghost use Rattle.tardis_c.specs.SystemParts.{answer_without_record, c_answer, capped, carried_by, carried_line};
+ghost use Rattle.tardis_c.specs.SystemParts.{carried_nothing, end_of, message_of, open_of, place_of, plain_op};
+ghost use Rattle.tardis_c.specs.SystemParts.{plain_record, victim_of};
 
 use crate::plain::{PlainOperation, PlainRecord};
 use interleaving_core::{Answer, Body, LineNo, Message, Node, TimedLine, Words};
@@ -10,7 +11,7 @@ use physiological_order::{Op, Record};
 /// The answer to an event, as `tardis.h` has it.
 #[repr(C)]
 #[derive(Clone, Copy)]
-pub struct PlainAnswer {
+pub struct CAnswer {
     /// 0 issued, 1 completed, 2 requested, 3 waiting, 4 idle, 5 delivered, 6 dropped, 7 held, 8 started, 9 evicted, 10
     /// recalled, 11 advanced, 12 refused.
     pub kind: u64,
@@ -133,8 +134,8 @@ pub(crate) fn plain_record(done: &Record) -> PlainRecord
 }
 
 // An answer that leaves no record.
-fn bare(kind: u64, refusal: u64) -> PlainAnswer
-    ensures { result ≡ bare kind refusal }
+fn answer_without_record(kind: u64, refusal: u64) -> CAnswer
+    ensures { result ≡ answer_without_record kind refusal }
 {
     let operation = PlainOperation {
         core: 0,
@@ -142,7 +143,7 @@ fn bare(kind: u64, refusal: u64) -> PlainAnswer
         address: 0,
         value: 0,
     };
-    PlainAnswer {
+    CAnswer {
         kind,
         refusal,
         completed: PlainRecord {
@@ -156,27 +157,27 @@ fn bare(kind: u64, refusal: u64) -> PlainAnswer
 }
 
 /// The answer to an event.
-pub(crate) fn answer_of(answer: &Answer) -> PlainAnswer
-    ensures { result ≡ answer_of answer.now }
+pub(crate) fn c_answer(answer: &Answer) -> CAnswer
+    ensures { result ≡ c_answer answer.now }
 {
     match answer {
-        Answer::Issued => bare(0, 0),
-        Answer::Completed(done) => PlainAnswer {
+        Answer::Issued => answer_without_record(0, 0),
+        Answer::Completed(done) => CAnswer {
             kind: 1,
             refusal: 0,
             completed: plain_record(done),
         },
-        Answer::Requested => bare(2, 0),
-        Answer::Waiting => bare(3, 0),
-        Answer::Idle => bare(4, 0),
-        Answer::Delivered => bare(5, 0),
-        Answer::Dropped => bare(6, 0),
-        Answer::Held => bare(7, 0),
-        Answer::Started => bare(8, 0),
-        Answer::Evicted => bare(9, 0),
-        Answer::Recalled => bare(10, 0),
-        Answer::Advanced => bare(11, 0),
-        Answer::Refused(refusal) => bare(12, u64::from(refusal.number())),
+        Answer::Requested => answer_without_record(2, 0),
+        Answer::Waiting => answer_without_record(3, 0),
+        Answer::Idle => answer_without_record(4, 0),
+        Answer::Delivered => answer_without_record(5, 0),
+        Answer::Dropped => answer_without_record(6, 0),
+        Answer::Held => answer_without_record(7, 0),
+        Answer::Started => answer_without_record(8, 0),
+        Answer::Evicted => answer_without_record(9, 0),
+        Answer::Recalled => answer_without_record(10, 0),
+        Answer::Advanced => answer_without_record(11, 0),
+        Answer::Refused(refusal) => answer_without_record(12, u64::from(refusal.number())),
     }
 }
 
@@ -197,8 +198,8 @@ fn all_words(words: &Words) -> [u64; 8]
 }
 
 // What a message says that carries nothing.
-fn bare_of(kind: u64) -> Carried
-    ensures { result ≡ bare_of kind }
+fn carried_nothing(kind: u64) -> Carried
+    ensures { result ≡ carried_nothing kind }
 {
     Carried {
         kind,
@@ -211,67 +212,67 @@ fn bare_of(kind: u64) -> Carried
 }
 
 // What a line in a message says.
-fn timed(kind: u64, line: &TimedLine) -> Carried
-    ensures { result ≡ timed kind line.now }
+fn carried_line(kind: u64, line: &TimedLine) -> Carried
+    ensures { result ≡ carried_line kind line.now }
 {
     Carried {
         wts: line.wts,
         rts: line.rts,
         words: all_words(&line.words),
-        ..bare_of(kind)
+        ..carried_nothing(kind)
     }
 }
 
 // What a message says up to which time.
-fn until(kind: u64, rts: u64) -> Carried
-    ensures { result ≡ record (bare_of kind) { rts = rts } }
+fn carried_time(kind: u64, rts: u64) -> Carried
+    ensures { result ≡ record (carried_nothing kind) { rts = rts } }
 {
     Carried {
         rts,
-        ..bare_of(kind)
+        ..carried_nothing(kind)
     }
 }
 
 // What a message from or to DRAM says that brings words.
-fn bringing(kind: u64, words: &Words) -> Carried
-    ensures { result ≡ record (bare_of kind) { words = words.now } }
+fn carried_words(kind: u64, words: &Words) -> Carried
+    ensures { result ≡ record (carried_nothing kind) { words = words.now } }
 {
     Carried {
         words: all_words(words),
-        ..bare_of(kind)
+        ..carried_nothing(kind)
     }
 }
 
 // What a request says.
-fn asking(kind: u64, pts: u64, version: Option<u64>) -> Carried
-    ensures { result ≡ record (bare_of kind) { pts = pts; version = version } }
+fn carried_request(kind: u64, pts: u64, version: Option<u64>) -> Carried
+    ensures { result ≡ record (carried_nothing kind) { pts = pts; version = version } }
 {
     Carried {
         pts,
         version,
-        ..bare_of(kind)
+        ..carried_nothing(kind)
     }
 }
 
 // What a body says.
-fn said(body: &Body) -> Carried
-    ensures { result ≡ said body.now }
+fn carried_by(body: &Body) -> Carried
+    ensures { result ≡ carried_by body.now }
 {
     match body {
-        Body::ShReq { pts, version } => asking(0, *pts, *version),
-        Body::ExReq { version } => asking(1, 0, *version),
-        Body::ShRep(line) => timed(2, line),
-        Body::ExRep(line) => timed(3, line),
-        Body::RenewRep { rts } => until(4, *rts),
-        Body::UpgradeRep { rts } => until(5, *rts),
-        Body::FlushReq => bare_of(6),
-        Body::WbReq { rts } => until(7, *rts),
-        Body::FlushRep(line) => timed(8, line),
-        Body::WbRep(line) => timed(9, line),
-        Body::DramLd => bare_of(10),
-        Body::DramLdRep(words) => bringing(11, words),
-        Body::DramSt(words) => bringing(12, words),
-        Body::DramStRep => bare_of(13),
+        Body::ShReq { pts, version } => carried_request(0, *pts, *version),
+        Body::ExReq { version } => carried_request(1, 0, *version),
+        Body::ShRep(line) => carried_line(2, line),
+        Body::ExRep(line) => carried_line(3, line),
+        Body::RenewRep { rts } => carried_time(4, *rts),
+        Body::UpgradeRep { rts } => carried_time(5, *rts),
+        Body::FlushReq => carried_nothing(6),
+        Body::WbReq { rts } => carried_time(7, *rts),
+        Body::FlushRep(line) => carried_line(8, line),
+        Body::WbRep(line) => carried_line(9, line),
+        Body::DramLd => carried_nothing(10),
+        Body::DramLdRep(words) => carried_words(11, words),
+        Body::DramSt(words) => carried_words(12, words),
+        Body::DramStRep => carried_nothing(13),
     }
 }
 
@@ -290,23 +291,23 @@ fn end_of(node: &Node) -> (u64, u64)
 pub(crate) fn message_of(number: u64, message: &Message) -> PlainMessage
     ensures { result ≡ message_of number message.now }
 {
-    let said = said(&message.body);
+    let carried = carried_by(&message.body);
     let from = end_of(&message.from);
     let to = end_of(&message.to);
     PlainMessage {
         number,
-        kind: said.kind,
+        kind: carried.kind,
         from_kind: from.0,
         from: from.1,
         to_kind: to.0,
         to: to.1,
         line: message.line.0,
-        pts: said.pts,
-        has_version: u64::from(said.version.is_some()),
-        version: said.version.unwrap_or(0),
-        wts: said.wts,
-        rts: said.rts,
-        words: said.words,
+        pts: carried.pts,
+        has_version: u64::from(carried.version.is_some()),
+        version: carried.version.unwrap_or(0),
+        wts: carried.wts,
+        rts: carried.rts,
+        words: carried.words,
     }
 }
 

@@ -10,7 +10,7 @@ use crate::arrays::first_fault;
 use crate::histories::memory_of;
 use crate::options::{PlainOptions, machine_options};
 use crate::plain::{Plain, PlainOperation, PlainWord, op_of};
-use crate::system_parts::{PlainAnswer, answer_of};
+use crate::system_parts::{CAnswer, c_answer};
 use held_machine::{Handle, put_back, take_out};
 use interleaving_core::{Config, Event, LineNo, MsgNo, System};
 use physiological_order::Memory;
@@ -18,7 +18,7 @@ use std::alloc::{AllocError, Global};
 use worker_driver::config_of;
 
 // A machine on the heap.
-fn made(alloc: Global, config: Config, memory: Memory) -> Result<Box<System>, AllocError>
+fn new_machine(alloc: Global, config: Config, memory: Memory) -> Result<Box<System>, AllocError>
     requires { is_good config ≡ true }
     ensures { IfOk result (λ system. system.value ≡ at_start config memory) }
 {
@@ -48,7 +48,7 @@ fn open(
     let Ok(memory) = memory_of(alloc, opening) else {
         return 3;
     };
-    match made(alloc, config, memory) {
+    match new_machine(alloc, config, memory) {
         Ok(system) => {
             put_back(machine, system);
             0
@@ -79,14 +79,14 @@ pub extern "C" fn tardis_c_system_open(
 }
 
 // One event, and its answer: 0, or 16 without a machine.
-fn step(alloc: Global, machine: &mut Handle, event: Event, answer: &mut PlainAnswer) -> u32
+fn step(alloc: Global, machine: &mut Handle, event: Event, answer: &mut CAnswer) -> u32
     ensures { Steps machine.old.owner.held machine.new.owner.held answer.old answer.new result event }
 {
     let Some(mut system) = take_out(alloc, machine) else {
         return 16;
     };
     let came = system.step(event);
-    *answer = answer_of(&came);
+    *answer = c_answer(&came);
     put_back(machine, system);
     0
 }
@@ -98,7 +98,7 @@ pub extern "C" fn tardis_c_system_issue(
     alloc: Global,
     machine: &mut Handle,
     operation: &PlainOperation,
-    answer: &mut PlainAnswer,
+    answer: &mut CAnswer,
 ) -> u32
     ensures { Issues machine.old.owner.held machine.new.owner.held answer.old answer.new result
         operation.now }
@@ -120,7 +120,7 @@ pub extern "C" fn tardis_c_system_attempt(
     alloc: Global,
     machine: &mut Handle,
     core: u32,
-    answer: &mut PlainAnswer,
+    answer: &mut CAnswer,
 ) -> u32
     ensures { Steps machine.old.owner.held machine.new.owner.held answer.old answer.new result
         (Attempt core) }
@@ -134,7 +134,7 @@ pub extern "C" fn tardis_c_system_deliver(
     alloc: Global,
     machine: &mut Handle,
     number: u64,
-    answer: &mut PlainAnswer,
+    answer: &mut CAnswer,
 ) -> u32
     ensures { Steps machine.old.owner.held machine.new.owner.held answer.old answer.new result
         (Deliver number) }
@@ -149,7 +149,7 @@ pub extern "C" fn tardis_c_system_evict_copy(
     machine: &mut Handle,
     core: u32,
     line: u64,
-    answer: &mut PlainAnswer,
+    answer: &mut CAnswer,
 ) -> u32
     ensures { Steps machine.old.owner.held machine.new.owner.held answer.old answer.new result
         (EvictCache core line) }
@@ -169,7 +169,7 @@ pub extern "C" fn tardis_c_system_evict_entry(
     machine: &mut Handle,
     bank: u32,
     line: u64,
-    answer: &mut PlainAnswer,
+    answer: &mut CAnswer,
 ) -> u32
     ensures { Steps machine.old.owner.held machine.new.owner.held answer.old answer.new result
         (EvictBank bank line) }
@@ -183,7 +183,7 @@ pub extern "C" fn tardis_c_system_advance(
     alloc: Global,
     machine: &mut Handle,
     core: u32,
-    answer: &mut PlainAnswer,
+    answer: &mut CAnswer,
 ) -> u32
     ensures { Steps machine.old.owner.held machine.new.owner.held answer.old answer.new result
         (Advance core) }

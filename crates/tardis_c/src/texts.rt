@@ -12,7 +12,7 @@ ghost use Rattle.report_lines.specs.declared.layout.Layout.TheVariants.{Lines};
 ghost use Rattle.tardis_c.specs.Answers.{IsTold};
 ghost use Rattle.tardis_c.specs.Options.{ends_options, is_set, litmus_options, trace_options};
 
-use crate::answers::tell;
+use crate::answers::write_result;
 use crate::options::{PlainOptions, ends_options, litmus_options, trace_options};
 use report::{check_report, ends_report, layout_of, litmus_report, opened_report, trace_report};
 use std::alloc::Global;
@@ -31,7 +31,7 @@ pub extern "C" fn tardis_c_litmus(
         buffer.old buffer.new long.new result }
 {
     let came = litmus_report(alloc, text, &litmus_options(options));
-    tell(&came, buffer, long)
+    write_result(&came, buffer, long)
 }
 
 /// Lists all ends of the litmus test that a text is, and puts the list into the buffer: lines, or a JSON object where
@@ -52,7 +52,7 @@ pub extern "C" fn tardis_c_ends(
         buffer.old buffer.new long.new result }
 {
     let came = ends_report(alloc, text, &ends_options(states, orders, json));
-    tell(&came, buffer, long)
+    write_result(&came, buffer, long)
 }
 
 /// Runs the trace that a text is, and puts the report, or the records, into the buffer.
@@ -69,7 +69,7 @@ pub extern "C" fn tardis_c_trace(
         buffer.old buffer.new long.new result }
 {
     let came = trace_report(alloc, text, &trace_options(options));
-    tell(&came, buffer, long)
+    write_result(&came, buffer, long)
 }
 
 /// Checks records against a trace over a memory of zeros, both as texts, and puts the line of the verdict into the
@@ -87,7 +87,7 @@ pub extern "C" fn tardis_c_check(
         buffer.old buffer.new long.new result }
 {
     let came = check_report(alloc, trace, records);
-    tell(&came, buffer, long)
+    write_result(&came, buffer, long)
 }
 
 /// Checks records against a trace over the memory that an opening gives, all three as texts, and puts the verdict into
@@ -111,5 +111,5 @@ pub extern "C" fn tardis_c_check_opened(
 {
     let layout = layout_of(json > 0);
     let came = opened_report(alloc, opening, trace, records, complete > 0, layout);
-    tell(&came, buffer, long)
+    write_result(&came, buffer, long)
 }

@@ -34,7 +34,7 @@ pub fn core_turn<P: Program>(
         seat.old program.old result seat.new program.new }
 {
     let was_stopped = seat.is_stopped();
-    let done = do_next(machine, seat, program);
+    let done = do_next_step(machine, seat, program);
     let moved = turn(machine, seat);
     told_of(was_stopped, seat.is_stopped(), done, moved)
 }
@@ -47,7 +47,7 @@ pub fn is_over<P: Program>(seat: &CoreSeat, program: &P) -> bool
 }
 
 // Does the program's next step, or attempts the operation that is open. Whether it was done, or why it was refused.
-fn do_next<P: Program>(
+fn do_next_step<P: Program>(
     machine: &Machine,
     seat: &mut CoreSeat,
     program: &mut P,
@@ -132,14 +132,14 @@ fn try_open<P: Program>(
             program.done(done.received);
             Ok(true)
         }
-        Err(refusal) => refused(machine, seat, refusal),
+        Err(refusal) => handle_refusal(machine, seat, refusal),
     }
 }
 
 // For a refusal of an attempt: a copy goes if there is no place for the line, and then no step is done. Any other is
 // told.
 #[inline(never)]
-fn refused(machine: &Machine, seat: &mut CoreSeat, refusal: Refusal) -> Result<bool, Refusal>
+fn handle_refusal(machine: &Machine, seat: &mut CoreSeat, refusal: Refusal) -> Result<bool, Refusal>
     requires { IsCoreSeat machine.now seat.old }
     ensures seat { IsCoreSeat machine.now seat.new }
     ensures work { SameWork seat.old seat.new }

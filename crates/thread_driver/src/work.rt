@@ -68,7 +68,7 @@ pub(crate) fn work<R: Clock, P: Program + Drop, G: Gate>(
             thread::sleep(rt, Duration::from_micros(REST));
         }
     }
-    tell(
+    signal_finished_programs(
         signals,
         &mut worker.signaler,
         &worker.cores,
@@ -130,7 +130,7 @@ fn pass<P: Program + Drop, G: Gate>(
         HasCounts P.acts rota.turns cores_had.old banks_had.old cores_had.new banks_had.new
         passed) }
 {
-    tell(
+    signal_finished_programs(
         signals,
         &mut worker.signaler,
         &worker.cores,
@@ -160,8 +160,13 @@ fn pass<P: Program + Drop, G: Gate>(
     Some(both(told, banks))
 }
 
-// Tells of each program that was finished since: then so many are told as are over.
-fn tell<P: Program>(signals: &Signals, signaler: &mut Signaler, cores: &[CoreSeat], programs: &[P])
+// Signals each program that was finished since: then so many are signalled as are over.
+fn signal_finished_programs<P: Program>(
+    signals: &Signals,
+    signaler: &mut Signaler,
+    cores: &[CoreSeat],
+    programs: &[P],
+)
     requires signaler { IsSignalerOf signals.now signaler.old }
     requires long { length programs.now ≡ length cores.now }
     requires few { length cores.now < 2 ^ 32 }

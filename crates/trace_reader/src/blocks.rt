@@ -118,7 +118,7 @@ impl Block {
     }
 
     /// Takes a line away, with its line feed if one follows.
-    pub(crate) fn pass(&mut self, count: usize)
+    pub(crate) fn remove_line(&mut self, count: usize)
         requires { count ≤ length (ahead self.old) }
         ensures { ahead self.new ≡ drop (count + 1) (ahead self.old) }
     {

@@ -105,8 +105,8 @@ impl ReadAhead {
         }
     }
 
-    // Meets a step, and puts it into its core's queue if it is kept. If an allocation fails, nothing changes.
-    fn meet(&mut self, core: u32, step: Step, keeps: bool) -> Result<(), AllocError>
+    // Puts a step into its core's queue if it is kept, and notes its core. If an allocation fails, nothing changes.
+    fn queue_step(&mut self, core: u32, step: Step, keeps: bool) -> Result<(), AllocError>
         requires there { core < length self.old.queues }
         requires few { core < 64 }
         ensures met { OnOk result ((line : ℕ) →
@@ -142,9 +142,9 @@ impl ReadAhead {
         if core as usize >= self.queues.len() {
             return Err(AheadError::NoQueue(self.stream.lines_taken()));
         }
-        match self.meet(core, step, keeps) {
+        match self.queue_step(core, step, keeps) {
             Ok(()) => {
-                let _taken = self.stream.let_go();
+                let _taken = self.stream.release_step();
                 Ok(())
             }
             Err(AllocError) => Err(AheadError::NoMemory),
@@ -172,7 +172,7 @@ impl ReadAhead {
             (S.failures source.new) (where_known (S.remaining source.old)
             (coming self.new.stream (S.remaining source.new)))) }
     {
-        match self.stream.hold(source) {
+        match self.stream.hold_next(source) {
             Err(error) => Err(AheadError::Text(error)),
             Ok(false) => Ok(false),
             Ok(true) => {

@@ -9,7 +9,7 @@ ghost use Rattle.trace_reader.specs.declared.limits.TheConstants.{MOST_NUMBERED}
 use crate::blocks::Block;
 use crate::limits::MOST_NUMBERED;
 use crate::next_lines::next_line;
-use crate::trace_texts::said;
+use crate::trace_texts::form_and_step;
 use byte_streams::Source;
 use physiological_order::Op;
 use trace_lines::{Form, Step, TraceError};
@@ -71,13 +71,13 @@ impl StepStream {
         let Some(length) = next_line(&mut self.block, source, self.number, MOST_NUMBERED)? else {
             return Ok(false);
         };
-        match said(self.form, self.block.front(length)) {
+        match form_and_step(self.form, self.block.front(length)) {
             Err(kind) => Err(TraceError {
                 line: self.number + 1,
                 kind,
             }),
             Ok((form, told)) => {
-                self.block.pass(length);
+                self.block.remove_line(length);
                 self.number += 1;
                 self.form = form;
                 self.held = told;
@@ -87,7 +87,7 @@ impl StepStream {
     }
 
     /// Reads on until the next step is held: whether there is one. What is to come stays as it is.
-    pub(crate) fn hold<S: Source>(&mut self, source: &mut S) -> Result<bool, TraceError>
+    pub(crate) fn hold_next<S: Source>(&mut self, source: &mut S) -> Result<bool, TraceError>
         ensures kept { Yields (coming self.old (S.remaining source.old))
             (coming self.new (S.remaining source.new)) [] }
         ensures held { IfOk result (λ held. held ≡ is_some self.new.held) }
@@ -117,7 +117,7 @@ impl StepStream {
     }
 
     /// The step that is held, which is held no longer.
-    pub(crate) fn let_go(&mut self) -> Option<(u32, Step)>
+    pub(crate) fn release_step(&mut self) -> Option<(u32, Step)>
         ensures told { (bytes : Option (List ℕ)) →
             Yields (coming self.old bytes) (coming self.new bytes)
             (numbered (lines_taken self.new) result) }
@@ -153,9 +153,9 @@ impl StepStream {
         ensures fault { IfErr result (Interrupts (S.failures source.old) (S.failures source.new)
             (coming self.old (S.remaining source.old))) }
     {
-        if !self.hold(source)? {
+        if !self.hold_next(source)? {
             return Ok(None);
         }
-        Ok(self.let_go())
+        Ok(self.release_step())
     }
 }

@@ -178,14 +178,14 @@ impl Trace {
         self.lanes.reserve(at + 1 - self.lanes.len())?;
         let mut lane = Lane::new(self.alloc);
         lane.push(step)?;
-        reach(&mut self.lanes, at, self.alloc);
+        extend_lanes(&mut self.lanes, at, self.alloc);
         self.lanes.push_reserved(lane);
         Ok(())
     }
 }
 
 // Lanes without steps, up to a number of lanes for which there is room.
-fn reach(lanes: &mut Vec<Lane>, number: usize, alloc: Global)
+fn extend_lanes(lanes: &mut Vec<Lane>, number: usize, alloc: Global)
     requires room { number ≤ vec_capacity lanes.old }
     ensures reached { length lanes.new.items ≡ max number (length lanes.old.items) }
     ensures same { (k : ℕ) → lane lanes.new.items k ≡ lane lanes.old.items k }

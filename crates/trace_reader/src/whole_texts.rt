@@ -70,7 +70,7 @@ pub(crate) fn read_lines<S: Source, L: FromLines>(
     'lines: while let Some(length) = next_line(&mut block, source, number, MOST_LINES)? {
         number += 1;
         kept.add_line(number, block.front(length))?;
-        block.pass(length);
+        block.remove_line(length);
     }
     Ok(())
 }

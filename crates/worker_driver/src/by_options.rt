@@ -22,7 +22,7 @@ use std::thread::Threads;
 /// machine is as they ask. As many workers as they say share runs by seeds, or drive the machine of a run by threads.
 /// AllocError if memory for runs on a good machine can't be allocated, as `policy_runs`, `seeded_runs` and
 /// `threaded_runs` say.
-pub fn asked_runs<R: Threads + Clock + Sync>(
+pub fn runs_by_options<R: Threads + Clock + Sync>(
     rt: &R,
     alloc: Global,
     test: &Test,
@@ -36,12 +36,12 @@ pub fn asked_runs<R: Threads + Clock + Sync>(
     let Some(config) = config_of(&options.run.machine, test.threads() as u32) else {
         return Ok(None);
     };
-    let runs = runs_on(rt, alloc, test, config, options)?;
+    let runs = runs_on_machine(rt, alloc, test, config, options)?;
     Ok(Some(runs))
 }
 
 /// The same by a schedule without threads: the calling thread makes all runs.
-pub fn asked_policy_runs(
+pub fn policy_runs_by_options(
     alloc: Global,
     test: &Test,
     options: &LitmusOptions,
@@ -55,12 +55,12 @@ pub fn asked_policy_runs(
     let Some(config) = config_of(&options.run.machine, test.threads() as u32) else {
         return Ok(None);
     };
-    let runs = policy_runs_on(alloc, test, config, options)?;
+    let runs = policy_runs_on_machine(alloc, test, config, options)?;
     Ok(Some(runs))
 }
 
 // The runs on a machine that is set up so.
-fn runs_on<R: Threads + Clock + Sync>(
+fn runs_on_machine<R: Threads + Clock + Sync>(
     rt: &R,
     alloc: Global,
     test: &Test,
@@ -85,7 +85,7 @@ fn runs_on<R: Threads + Clock + Sync>(
 }
 
 // The same where no threads drive the first run.
-fn policy_runs_on(
+fn policy_runs_on_machine(
     alloc: Global,
     test: &Test,
     config: Config,

@@ -13,7 +13,7 @@ mod shared_runs;
 mod threads;
 
 pub use batches::{batch, policy_runs, seeded_runs};
-pub use by_options::{asked_policy_runs, asked_runs};
+pub use by_options::{policy_runs_by_options, runs_by_options};
 pub use finished::Finished;
 pub use programs::{End, OpProgram, Program, Step, StepProgram};
 pub use report_text::RunEnd;

@@ -7,6 +7,6 @@ pub returns : goal.returns
 returns c =
     let local : Arg → Bool = λ a. a.global in (
       ap rule_of c.default_value.ensures
-          ∙ ap (λ (r : Rule). record r { defaults = c.args.default.now ∷ [] }) c.bare.ensures.0,
-      ap local c.default_value.ensures ∙ c.bare.ensures.1,
+          ∙ ap (λ (r : Rule). record r { defaults = c.args.default.now ∷ [] }) c.option_without_default.ensures.0,
+      ap local c.default_value.ensures ∙ c.option_without_default.ensures.1,
     )

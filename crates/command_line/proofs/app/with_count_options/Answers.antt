@@ -5,7 +5,7 @@ use Rattle.command_line.proofs.app.with_count_options.Goals as goal
 pub returns : goal.returns
 returns c =
     let every : c.range-every.result ≡ from_one = rw c.value_parser.ensures at c.range-every.ensures in
-    let sparse = rw every at c.bare.ensures in
+    let sparse = rw every at c.option_without_default.ensures in
     λ app had.
     c.with.ensures _ c.flag-3.ensures _ (c.with-three.ensures _ sparse _ (c.with-two.ensures _ c.flag-2.ensures _
     (c.with-one.ensures _ c.flag.ensures app had)))

@@ -12,6 +12,6 @@ returns c =
       c.schedules-names.ensures,
       λ app had.
           c.with.ensures _ c.flag-2.ensures _ (c.with-five.ensures _ c.flag.ensures _ (c.with-four.ensures _ shared _
-          (c.with-three.ensures _ limited _ (c.with_any-two.ensures _
+          (c.with-three.ensures _ limited _ (c.with_number-two.ensures _
           (c.with-one.ensures _ c.option.ensures app had))))),
     )

@@ -19,8 +19,8 @@ leave-other-requires c =
     subst (λ k. d.number < k) (sym long)
     (c.requires.drawers (length new) d (ap (λ z. slice_get z (length new)) all ∙ get_middle new d i.2.0)).1
 
-pub meet-requires-clause-table : goal.meet-requires-clause-table
-meet-requires-clause-table c =
+pub join_view-requires-clause-table : goal.join_view-requires-clause-table
+join_view-requires-clause-table c =
     let i = c.loop-drawer.invariant in
     let table = c.requires.table in
     let new : List Drawer = c.pop.new.self.items in
@@ -35,7 +35,7 @@ meet-requires-clause-table c =
 pub loop-drawer-preserved : goal.loop-drawer-preserved
 loop-drawer-preserved c =
     let i = c.loop-drawer.invariant in
-    let m = c.meet.ensures in
+    let m = c.join_view.ensures in
     let left = c.leave-other.ensures in
     let v = c.args.seat.now.me.0 in
     let own = c.args.seat.now.me.1 in

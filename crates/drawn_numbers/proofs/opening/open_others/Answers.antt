@@ -6,14 +6,14 @@ use Rattle.drawn_numbers.specs.Drawers.{IsNewDrawer}
 use Rattle.drawn_numbers.proofs.DrawerLists.{new_drawer, more_drawers}
 use Rattle.drawn_numbers.proofs.opening.open_others.Goals as goal
 
-pub make-seat-requires-clause-table : goal.make-seat-requires-clause-table
-make-seat-requires-clause-table c =
+pub make_seat-seat-requires-clause-table : goal.make_seat-seat-requires-clause-table
+make_seat-seat-requires-clause-table c =
     let m = c.args.numbers.now in
     let i = c.loop-number.invariant in
     (i.0.0, m.sized.1, m.sized.2, subst (λ k. k ≤ 16) (sym m.keyed) m.sized.3)
 
-pub make-seat-requires-clause-more : goal.make-seat-requires-clause-more
-make-seat-requires-clause-more c =
+pub make_seat-seat-requires-clause-more : goal.make_seat-seat-requires-clause-more
+make_seat-seat-requires-clause-more c =
     let m = c.args.numbers.now in
     let i = c.loop-number.invariant in
     let v = ap (λ y. y.0.made) i.0.1 in
@@ -24,7 +24,7 @@ make-seat-requires-clause-more c =
 pub loop-number-preserved : goal.loop-number-preserved
 loop-number-preserved c =
     let i = c.loop-number.invariant in
-    let made = c.make-seat.ensures in
+    let made = c.make_seat-seat.ensures in
     let m = c.args.numbers.now in
     let d : Drawer = c.new_drawer.result in
     let ds : List Drawer = c.loop-number.others.items in
@@ -33,7 +33,7 @@ loop-number-preserved c =
     let long : length c.push.new.self.items ≡ length ds + 1 = ap length items ∙ length-append ds (d ∷ []) in
     let n : ℕ = c.loop-number.number in
     let seat : IsNewDrawer m n d =
-    new_drawer m n d c.make-seat.result c.loop-number-test.true (made.table.2 ∙ i.0.0) new.0 new.1 new.2 in (
+    new_drawer m n d c.make_seat-seat.result c.loop-number-test.true (made.table.2 ∙ i.0.0) new.0 new.1 new.2 in (
       (made.table.0 ∙ i.0.0, made.made.0 ∙ ap (λ y. (one_more y.0, y.1)) i.0.1),
       omega arith,
       omega arith,

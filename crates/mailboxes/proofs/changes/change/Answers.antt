@@ -3,8 +3,8 @@ use Rattle.seat_rule.specs.declared.views.SetUp.{SetUp}
 use Rattle.seat_rule.specs.Rule.{seat_count}
 use Rattle.mailboxes.proofs.changes.change.Goals as goal
 
-pub stand-requires-clause-change : goal.stand-requires-clause-change
-stand-requires-clause-change g c =
+pub store_hold-requires-clause-change : goal.store_hold-requires-clause-change
+store_hold-requires-clause-change g c =
     let v = c.args.seat.now.me.0 in
     let z : SetUp = g.C.StepChoice.set_up in
     let t = c.requires.change in (

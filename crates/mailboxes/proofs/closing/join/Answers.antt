@@ -14,8 +14,8 @@ leave-other-requires g c =
     room_left g.S.Leaver.part c.args.seats.items c.pop.new.self.items i.3.0 c.in-Some.port c.args.parts.now.items
     c.loop-port.parts.items all i.3.3 c.requires.room i.2
 
-pub meet-requires-clause-table : goal.meet-requires-clause-table
-meet-requires-clause-table g c =
+pub join_view-requires-clause-table : goal.join_view-requires-clause-table
+join_view-requires-clause-table g c =
     let i = c.loop-port.invariant in
     let d = c.requires.table in
     let new = c.pop.new.self.items in
@@ -30,7 +30,7 @@ meet-requires-clause-table g c =
 pub loop-port-preserved : goal.loop-port-preserved
 loop-port-preserved g c =
     let i = c.loop-port.invariant in
-    let m = c.meet.ensures in
+    let m = c.join_view.ensures in
     let left = c.leave-other.ensures in
     let v = c.args.seat.now.me.0 in
     let own = c.args.seat.now.me.1 in

@@ -24,12 +24,12 @@ loop-record-preserved c =
     let i = c.loop-record.record-index in
     let r = c.record-item.result in
     let invariant = c.loop-record.invariant in
-    let stale = c.in_ok-visit.ensures.stale in
+    let stale = c.in_ok-check_stale_hit.ensures.stale in
     let counted = stale_among-take c.args.records.now i r c.loop-record.latest c.loop-record-test.true
     c.record-item.is c.requires invariant.latest in
     let more = take-next c.args.records.now i r c.loop-record-test.true c.record-item.is in
     record {
-      latest = rw (c.in_ok-visit.ensures.kept, more)
+      latest = rw (c.in_ok-check_stale_hit.ensures.kept, more)
           (Latest-push c.loop-record.latest (take i c.args.records.now) r invariant.latest);
       counted = elim c.if-branch.branch [
         | then-branch w ↦ w.count-is ∙ ap₂ (λ n b. n + cond b 1 0) invariant.counted (sym w.if-branch.true ∙ stale)
@@ -38,21 +38,21 @@ loop-record-preserved c =
             (sym w.if-branch.false ∙ stale) ∙ sym counted
       ];
       small = elim c.if-branch.branch [ then-branch w ↦ omega arith | else-branch w ↦ omega arith ];
-      made = c.visit.ensures.counted ∙ ap (λ made. after_steps made (looks_of r.op)) invariant.made
+      made = c.check_stale_hit.ensures.counted ∙ ap (λ made. after_steps made (looks_of r.op)) invariant.made
           ∙ after_more c.args.steps.now (looks (take i c.args.records.now)) (looks_of r.op)
           ∙ ap (after_steps c.args.steps.now)
           (sym (looks-next c.args.records.now i r (take-next c.args.records.now i r c.loop-record-test.true
           c.record-item.is)));
     }
 
-pub returns-in_err-visit-clause-bound : goal.returns-in_err-visit-clause-bound
-returns-in_err-visit-clause-bound c =
+pub returns-in_err-check_stale_hit-clause-bound : goal.returns-in_err-check_stale_hit-clause-bound
+returns-in_err-check_stale_hit-clause-bound c =
     let i = c.loop-record.record-index in
     let r = c.record-item.result in
     let most = looks-one_more c.args.records.now i r (take-next c.args.records.now i r c.loop-record-test.true
     c.record-item.is) in
     subst (λ (made : ℕ). made ≤ c.args.steps.now + 2 * length c.args.records.now)
-    (sym (c.visit.ensures.counted ∙ ap (λ made. after_steps made (looks_of r.op)) c.loop-record.invariant.made
+    (sym (c.check_stale_hit.ensures.counted ∙ ap (λ made. after_steps made (looks_of r.op)) c.loop-record.invariant.made
     ∙ after_more c.args.steps.now (looks (take i c.args.records.now)) (looks_of r.op)))
     (after_at_most c.args.steps.now (looks (take i c.args.records.now) + looks_of r.op)
     (2 * length c.args.records.now) most)

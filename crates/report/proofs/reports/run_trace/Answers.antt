@@ -18,7 +18,8 @@ returns-clause-cut_off g c = λ failed. (
   (
     c.in-Ok-report_of.report.text.items,
     (c.in-Ok.trace, c.in-Ok.ensures.read, c.in-Ok-report_of.ensures.report),
-    subst (GrowsByFront (g.K.Sink.contents c.args.sink.now) (g.K.Sink.contents c.put_out.new.sink))
-        c.deref.ensures.value (cut c.put_out.result _ _ _ _ c.deref.result.now c.put_out.ensures.failed failed),
+    subst (GrowsByFront (g.K.Sink.contents c.args.sink.now) (g.K.Sink.contents c.write_report.new.sink))
+        c.deref.ensures.value
+        (cut c.write_report.result _ _ _ _ c.deref.result.now c.write_report.ensures.failed failed),
   ),
 )

@@ -38,7 +38,7 @@ pieces-preserved g c =
     c.runs_serve_programs.ensures in
     let old = g.K.Sink.contents c.args.sink.now in
     let now = g.K.Sink.contents c.pieces.sink in
-    let new = g.K.Sink.contents c.put_records.new.sink in
+    let new = g.K.Sink.contents c.write_records.new.sink in
     let before = c.pieces.invariant in
     let made = c.in-Ok.ensures in
     let made_run = c.make_piece.new.run in
@@ -86,27 +86,28 @@ returns-in-Err-clause-stopped g c =
     (begun laws options known c.requires.good c.pieces.run (g.S.Source.remaining c.pieces.source) old now
     before.running before.written) (c.in-Err.ensures.refused options known before.running)
 
-pub returns-in-Err-put_records-clause-stopped : goal.returns-in-Err-put_records-clause-stopped
-returns-in-Err-put_records-clause-stopped g c =
+pub returns-in-Err-write_records-clause-stopped : goal.returns-in-Err-write_records-clause-stopped
+returns-in-Err-write_records-clause-stopped g c =
     let options = c.args.options.now in
     let known = g.S.Source.remaining c.args.source.now in
     let old = g.K.Sink.contents c.args.sink.now in
     let now = g.K.Sink.contents c.pieces.sink in
-    let new = g.K.Sink.contents c.put_records.new.sink in
+    let new = g.K.Sink.contents c.write_records.new.sink in
     let before = c.pieces.invariant in
     let made = c.in-Ok.ensures in
     let laws = laws_by c.every_history_is_legal.ensures.consistent c.every_history_is_legal.ensures.opening
     c.runs_serve_programs.ensures in
     not_written options known old (g.S.Source.failures c.args.source.now) (g.K.Sink.failures c.args.sink.now) now new
     (g.S.Source.failures c.make_piece.new.source) (g.K.Sink.failures c.pieces.sink)
-    (g.K.Sink.failures c.put_records.new.sink) (text_if options.records c.done.result.now) c.in-Err-put_records.error
+    (g.K.Sink.failures c.write_records.new.sink) (text_if options.records c.done.result.now)
+    c.in-Err-write_records.error
     (made.none_failed ∙ before.read) before.put
     (begun laws options known c.requires.good c.pieces.run (g.S.Source.remaining c.pieces.source) old now
     before.running before.written)
     (λ part. cut laws options known c.requires.good c.make_piece.new.run (g.S.Source.remaining c.make_piece.new.source)
     old now new c.pieces.run.machine.records (made.runs options known before.running) made.added before.written
     (subst (λ (rs : List Record). GrowsByFront now new (text_if options.records rs)) c.done.ensures part))
-    c.in-Err-put_records.ensures.failed
+    c.in-Err-write_records.ensures.failed
 
 pub returns-in-Err-read_rest-clause-stopped : goal.returns-in-Err-read_rest-clause-stopped
 returns-in-Err-read_rest-clause-stopped g c =
@@ -123,13 +124,13 @@ returns-in-Err-read_rest-clause-stopped g c =
     (begun laws options known c.requires.good c.pieces.run (g.S.Source.remaining c.pieces.source) old now
     before.running before.written) (c.in-Err-read_rest.ensures.refused options known before.running)
 
-pub returns-in-Err-put_report-clause-stopped : goal.returns-in-Err-put_report-clause-stopped
-returns-in-Err-put_report-clause-stopped g c =
+pub returns-in-Err-write_end_report-clause-stopped : goal.returns-in-Err-write_end_report-clause-stopped
+returns-in-Err-write_end_report-clause-stopped g c =
     let options = c.args.options.now in
     let known = g.S.Source.remaining c.args.source.now in
     let old = g.K.Sink.contents c.args.sink.now in
     let now = g.K.Sink.contents c.pieces.sink in
-    let new = g.K.Sink.contents c.put_report.new.sink in
+    let new = g.K.Sink.contents c.write_end_report.new.sink in
     let before = c.pieces.invariant in
     let last = c.read_rest.new.run in
     let rest = c.in_default-read_rest.ensures in
@@ -137,14 +138,14 @@ returns-in-Err-put_report-clause-stopped g c =
     c.runs_serve_programs.ensures in
     not_written options known old (g.S.Source.failures c.args.source.now) (g.K.Sink.failures c.args.sink.now) now new
     (g.S.Source.failures c.read_rest.new.source) (g.K.Sink.failures c.pieces.sink)
-    (g.K.Sink.failures c.put_report.new.sink) (text_unless options.records (layout_of options.json) last)
-    c.in-Err-put_report.error (rest.none_failed ∙ before.read) before.put
+    (g.K.Sink.failures c.write_end_report.new.sink) (text_unless options.records (layout_of options.json) last)
+    c.in-Err-write_end_report.error (rest.none_failed ∙ before.read) before.put
     (begun laws options known c.requires.good c.pieces.run (g.S.Source.remaining c.pieces.source) old now
     before.running before.written)
     (λ part. reported_in_part laws options known c.requires.good last (g.S.Source.remaining c.read_rest.new.source)
     (rest.ended options known before.running (before.over c.pieces-test.false)) old now new
     (subst (HasWritten options.records old now) (ap (λ m. m.records) (sym rest.stays)) before.written) part)
-    c.in-Err-put_report.ensures.failed
+    c.in-Err-write_end_report.ensures.failed
 
 pub returns-clause-told : goal.returns-clause-told
 returns-clause-told g c =
@@ -152,7 +153,7 @@ returns-clause-told g c =
     let known = g.S.Source.remaining c.args.source.now in
     let old = g.K.Sink.contents c.args.sink.now in
     let now = g.K.Sink.contents c.pieces.sink in
-    let new = g.K.Sink.contents c.put_report.new.sink in
+    let new = g.K.Sink.contents c.write_end_report.new.sink in
     let first = g.E.Sink.contents c.args.errors.now in
     let last = g.E.Sink.contents c.pieces.errors in
     let failed = g.E.Sink.failures c.args.errors.now in
@@ -168,7 +169,7 @@ returns-clause-told g c =
     (subst (HasWritten options.records old now) (ap (λ m. m.records) (sym rest.stays)) before.written) first last failed
     fails (subst (λ m. IsProgress options known m.records first last failed fails) (sym rest.stays)
     (progress_of options known c.pieces.run.machine.records c.pieces.tells first last failed fails before.telling))
-    c.in_default-put_report.ensures.all)
+    c.in_default-write_end_report.ensures.all)
 
 pub returns-clause-end : goal.returns-clause-end
 returns-clause-end g c =
@@ -179,16 +180,16 @@ pub returns-in-Err-clause-telling : goal.returns-in-Err-clause-telling
 returns-in-Err-clause-telling g c =
     (c.pieces.run.machine.records, progress_of _ _ _ _ _ _ _ _ c.pieces.invariant.telling)
 
-pub returns-in-Err-put_records-clause-telling : goal.returns-in-Err-put_records-clause-telling
-returns-in-Err-put_records-clause-telling g c =
+pub returns-in-Err-write_records-clause-telling : goal.returns-in-Err-write_records-clause-telling
+returns-in-Err-write_records-clause-telling g c =
     (c.pieces.run.machine.records, progress_of _ _ _ _ _ _ _ _ c.pieces.invariant.telling)
 
 pub returns-in-Err-read_rest-clause-telling : goal.returns-in-Err-read_rest-clause-telling
 returns-in-Err-read_rest-clause-telling g c =
     (c.pieces.run.machine.records, progress_of _ _ _ _ _ _ _ _ c.pieces.invariant.telling)
 
-pub returns-in-Err-put_report-clause-telling : goal.returns-in-Err-put_report-clause-telling
-returns-in-Err-put_report-clause-telling g c =
+pub returns-in-Err-write_end_report-clause-telling : goal.returns-in-Err-write_end_report-clause-telling
+returns-in-Err-write_end_report-clause-telling g c =
     (c.pieces.run.machine.records, progress_of _ _ _ _ _ _ _ _ c.pieces.invariant.telling)
 
 pub returns-clause-telling : goal.returns-clause-telling

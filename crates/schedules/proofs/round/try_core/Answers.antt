@@ -20,8 +20,8 @@ returns-then-branch g c =
     let acts = g.P.Program.acts in
     let full = finds_no_place a.system.now a.core in
     did_then acts _ _ (tries acts a.core) (only_if full (one (Does (Attempt a.core)))) c.in_ok-attempt.ensures.did
-    (end_in c.make.result) (did_if acts _ _ _ full (one (Does (Attempt a.core)))
-    (sym c.in_ok-attempt.ensures.full ∙ c.if-branch.true) (end_in c.make.result) c.make.ensures)
+    (end_in c.make_event.result) (did_if acts _ _ _ full (one (Does (Attempt a.core)))
+    (sym c.in_ok-attempt.ensures.full ∙ c.if-branch.true) (end_in c.make_event.result) c.make_event.ensures)
 
 pub returns : goal.returns
 returns g c =

@@ -16,4 +16,4 @@ returns g c =
     let m = c.args.system.now in
     rw (advance_entry m c.args.b (c.args.b % c.cores-cores.result)
     (omega (arith, c.if-cores-eq0.false, c.cores-cores.ensures.cores))
-    (ap (λ n. c.args.b % n) c.cores-cores.ensures.cores)) c.make.ensures
+    (ap (λ n. c.args.b % n) c.cores-cores.ensures.cores)) c.make_event.ensures

@@ -13,7 +13,7 @@ returns-in_default g c =
 pub returns : goal.returns
 returns g c =
     let a = c.args in
-    let n = c.make.new in
+    let n = c.make_event.new in
     let acts = g.P.Program.acts in
     let h = g.H.Holder in
     let p = at a.system.now a.programs.now a.log.now in
@@ -21,7 +21,7 @@ returns g c =
     let e = c.eviction.result in
     let is : choice_at (line_events h.eviction (h.lines a.system.now) (h.holders a.system.now)) a.b ≡ Evicts e =
     search rules ∙ ap Evicts (sym c.eviction.ensures) in
-    subst (λ choice. Reaches acts g.W.Watcher.watches (chosen acts choice) p (end_in c.make.result) q) (sym is)
+    subst (λ choice. Reaches acts g.W.Watcher.watches (chosen acts choice) p (end_in c.make_event.result) q) (sym is)
     (did_as acts _ p q (followed_by acts (one Lists) (one (Does e))) (chosen acts (Evicts e)) refl
-    (end_in c.make.result) (did_then acts _ q (one Lists) (one (Does e)) (list_made acts _ p) (end_in c.make.result)
-    (rw c.drawn_line.ensures.machine at c.make.ensures)))
+    (end_in c.make_event.result) (did_then acts _ q (one Lists) (one (Does e)) (list_made acts _ p)
+    (end_in c.make_event.result) (rw c.drawn_line.ensures.machine at c.make_event.ensures)))

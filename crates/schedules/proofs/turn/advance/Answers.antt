@@ -13,5 +13,5 @@ pub returns : goal.returns
 returns g c =
     let a = c.args in
     advance_made g.P.Program.acts _ a.system.now a.programs.now a.log.now a.core _ c.step.new.system
-    c.tell_advance.new.programs c.step.new.log c.tell_advance.new.log c.in_ok-plain.ensures
-    (c.tell_advance.ensures.done c.step.new.system.records) c.tell_advance.ensures.told
+    c.mark_advance_done.new.programs c.step.new.log c.mark_advance_done.new.log c.in_ok-plain.ensures
+    (c.mark_advance_done.ensures.done c.step.new.system.records) c.mark_advance_done.ensures.told

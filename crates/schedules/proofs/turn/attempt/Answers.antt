@@ -60,7 +60,8 @@ returns-clause-did g c =
     ap (λ (x : Answer × Machine). is_no_room x.0) (sym c.in_ok-plain.ensures.0) ∙ room in
     did_then acts _ _ (one (Does (Attempt a.core))) (only_if (finds_no_place a.system.now a.core) (makes_place a.core))
     (event_made acts _ a.system.now a.programs.now a.log.now (Attempt a.core) _ c.try_core.new.system
-    c.tell.new.programs c.try_core.new.log c.tell.new.log c.in_ok-plain.ensures c.tell.ensures.done c.tell.ensures.told)
+    c.mark_operation_done.new.programs c.try_core.new.log c.mark_operation_done.new.log c.in_ok-plain.ensures
+    c.mark_operation_done.ensures.done c.mark_operation_done.ensures.told)
     None (did_not acts _ _ (finds_no_place a.system.now a.core) (makes_place a.core) found)
 
 pub returns-clause-full : goal.returns-clause-full

@@ -18,21 +18,21 @@ returns-in_err-plain g c programs =
     rw (e.1, e.2) (did_first acts _ _ _ (one (Does (Deliver a.number)))
     (only_if (is_held (transition a.system.now (Deliver a.number)).0) (makes_room acts a.is_fair a.number))
     c.in_err-plain.field-0.0 (event_not_made acts _ a.system.now programs a.log.now (Deliver a.number)
-    c.in_err-plain.field-0.0 c.step_told.new.system c.step_told.new.log c.in_err-plain.ensures.noted))
+    c.in_err-plain.field-0.0 c.step_delivery.new.system c.step_delivery.new.log c.in_err-plain.ensures.noted))
 
 pub returns-then-waits : goal.returns-then-waits
 returns-then-waits g c programs =
     let a = c.args in
     let acts = g.P.Program.acts in
-    let waits : IsTrue c.step_told.new.waits = search rules in
-    let behind = at c.step_told.new.system programs c.step_told.new.log in
+    let waits : IsTrue c.step_delivery.new.waits = search rules in
+    let behind = at c.step_delivery.new.system programs c.step_delivery.new.log in
     did_then acts _ _ (one (Does (Deliver a.number)))
     (only_if (is_held (transition a.system.now (Deliver a.number)).0) (makes_room acts a.is_fair a.number))
-    (delivery_made acts _ a.system.now programs a.log.now a.number _ c.step_told.new.system c.step_told.new.log
+    (delivery_made acts _ a.system.now programs a.log.now a.number _ c.step_delivery.new.system c.step_delivery.new.log
     c.in_ok-plain.ensures.noted) None
     (did_nothing acts _ behind _ (makes_room acts a.is_fair a.number)
     (ap (λ (o : Option (ℕ × ℕ)). line_leaves acts a.is_fair a.number o (standing behind false))
-    (c.step_told.ensures.told waits)))
+    (c.step_delivery.ensures.told waits)))
 
 pub returns-then-is_held : goal.returns-then-is_held
 returns-then-is_held g c programs =
@@ -43,7 +43,7 @@ returns-then-is_held g c programs =
     ap (λ (x : Answer × Machine). is_held x.0) (sym c.in_ok-plain.ensures.noted.0) ∙ stays in
     did_then acts _ _ (one (Does (Deliver a.number)))
     (only_if (is_held (transition a.system.now (Deliver a.number)).0) (makes_room acts a.is_fair a.number))
-    (delivery_made acts _ a.system.now programs a.log.now a.number _ c.step_told.new.system c.step_told.new.log
+    (delivery_made acts _ a.system.now programs a.log.now a.number _ c.step_delivery.new.system c.step_delivery.new.log
     c.in_ok-plain.ensures.noted) (end_in c.evict_bank.result)
     (did_if acts _ _ _ _ (makes_room acts a.is_fair a.number) held (end_in c.evict_bank.result)
     (c.evict_bank.ensures programs))
@@ -57,5 +57,5 @@ returns g c programs =
     ap (λ (x : Answer × Machine). is_held x.0) (sym c.in_ok-plain.ensures.noted.0) ∙ gone in
     did_then acts _ _ (one (Does (Deliver a.number)))
     (only_if (is_held (transition a.system.now (Deliver a.number)).0) (makes_room acts a.is_fair a.number))
-    (delivery_made acts _ a.system.now programs a.log.now a.number _ c.step_told.new.system c.step_told.new.log
+    (delivery_made acts _ a.system.now programs a.log.now a.number _ c.step_delivery.new.system c.step_delivery.new.log
     c.in_ok-plain.ensures.noted) None (did_not acts _ _ _ (makes_room acts a.is_fair a.number) held)

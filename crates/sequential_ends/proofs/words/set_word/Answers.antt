@@ -13,6 +13,6 @@ returns-then-at-len c =
 pub returns : goal.returns
 returns c =
     c.in_ok-push.ensures.items
-    ∙ set_behind c.reach.new.words.items c.word-at.result c.args.value c.in_ok-reach.ensures.count
-    ∙ c.in_ok-reach.ensures.same c.args.value
+    ∙ set_behind c.extend_words.new.words.items c.word-at.result c.args.value c.in_ok-extend_words.ensures.count
+    ∙ c.in_ok-extend_words.ensures.same c.args.value
     ∙ ap (λ (a : ℕ). with_word_in c.args.words.now.items a c.args.value) c.word-at.ensures.number

@@ -6,8 +6,8 @@ use Rattle.stop_flags.specs.Ties.{FlagSeat}
 use Rattle.seat_views.proofs.Lemmas.{joined, get_middle}
 use Rattle.stop_flags.proofs.closing.join_all.Goals as goal
 
-pub meet-requires-clause-table : goal.meet-requires-clause-table
-meet-requires-clause-table c =
+pub join_view-requires-clause-table : goal.join_view-requires-clause-table
+join_view-requires-clause-table c =
     let i = c.loop-signaler.invariant in
     let table = c.requires.table in
     let new : List Signaler = c.pop.new.self.items in

@@ -8,16 +8,16 @@ use Rattle.seat_views.proofs.Lemmas.{more_at}
 use Rattle.stop_flags.specs.Signalers.{IsNewSignaler}
 use Rattle.stop_flags.proofs.opening.open_others.Goals as goal
 
-pub make-seat-requires-clause-table : goal.make-seat-requires-clause-table
-make-seat-requires-clause-table c = search rules
+pub make_seat-seat-requires-clause-table : goal.make_seat-seat-requires-clause-table
+make_seat-seat-requires-clause-table c = search rules
 
-pub make-seat-requires-clause-more : goal.make-seat-requires-clause-more
-make-seat-requires-clause-more c = search rules
+pub make_seat-seat-requires-clause-more : goal.make_seat-seat-requires-clause-more
+make_seat-seat-requires-clause-more c = search rules
 
 pub loop-number-preserved : goal.loop-number-preserved
 loop-number-preserved c =
     let i = c.loop-number.invariant in
-    let made = c.make-seat.ensures in
+    let made = c.make_seat-seat.ensures in
     let m = c.args.signals.now in
     let s : Signaler = c.new_signaler.result in
     let ss : List Signaler = c.loop-number.others.items in
@@ -30,6 +30,6 @@ loop-number-preserved c =
       omega arith,
       omega arith,
       more_at (IsNewSignaler m) 1 ss c.push.new.self.items s items i.3
-          (new_signaler m (1 + length ss) s c.make-seat.result (made.table.2 ∙ i.0.0) workers
+          (new_signaler m (1 + length ss) s c.make_seat-seat.result (made.table.2 ∙ i.0.0) workers
           (ap (λ y. y.0.number) made.made.1 ∙ v ∙ omega arith) new.0 new.1),
     )

@@ -16,7 +16,7 @@ returns-in-Ok g c = inr (
   c.in-Ok.ensures.job,
   c.exit_status.ensures,
   c.run_job-came.ensures,
-  c.tell_result.ensures,
+  c.write_run_error.ensures,
 )
 
 pub returns-in-Err : goal.returns-in-Err
@@ -25,5 +25,5 @@ returns-in-Err g c = inl (
   c.in-Err.ensures.refused,
   c.words_status.ensures,
   refl,
-  rw (← c.words_text.ensures) c.tell.ensures,
+  rw (← c.words_text.ensures) c.write_error.ensures,
 )

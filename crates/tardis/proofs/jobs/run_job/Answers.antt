@@ -2,20 +2,21 @@ use Rattle.std.proofs.Common.{refl}
 use Rattle.tardis.proofs.jobs.run_job.Goals as goal
 
 pub returns-in-Litmus : goal.returns-in-Litmus
-returns-in-Litmus g c = rw c.in-Litmus.is (c.open.result, c.open.ensures, c.litmus_of.ensures, refl)
+returns-in-Litmus g c = rw c.in-Litmus.is (c.open.result, c.open.ensures, c.run_opened_litmus.ensures, refl)
 
 pub returns-in-Ends : goal.returns-in-Ends
-returns-in-Ends g c = rw c.in-Ends.is (c.open-in-Ends.result, c.open-in-Ends.ensures, c.ends_of.ensures, refl)
+returns-in-Ends g c = rw c.in-Ends.is (c.open-in-Ends.result, c.open-in-Ends.ensures, c.list_opened_ends.ensures, refl)
 
 pub returns-in-Trace : goal.returns-in-Trace
-returns-in-Trace g c = rw c.in-Trace.is (c.open-in-Trace.result, c.open-in-Trace.ensures, c.trace_of.ensures, refl)
+returns-in-Trace g c =
+    rw c.in-Trace.is (c.open-in-Trace.result, c.open-in-Trace.ensures, c.run_opened_trace.ensures, refl)
 
 pub returns-in-Stream : goal.returns-in-Stream
 returns-in-Stream g c = rw c.in-Stream.is (
   c.open-in-Stream.result,
   c.open-in-Stream.ensures,
-  c.stream_of.ensures.run,
-  c.stream_of.ensures.quiet,
+  c.stream_opened.ensures.run,
+  c.stream_opened.ensures.quiet,
 )
 
 pub returns-in-Check : goal.returns-in-Check
@@ -26,6 +27,6 @@ returns-in-Check g c = rw c.in-Check.is (
   c.open-records.result,
   c.open-trace.ensures,
   c.open-records.ensures,
-  c.check_of.ensures,
+  c.check_files.ensures,
   refl,
 )

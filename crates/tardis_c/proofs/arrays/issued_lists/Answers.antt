@@ -67,10 +67,10 @@ pub loop-operation-preserved : goal.loop-operation-preserved
 loop-operation-preserved c =
     let xs = c.args.operations.now in
     let i = c.loop-operation.operation-index in
-    let new = c.reach.new.lists.items in
+    let new = c.extend_lists.new.lists.items in
     let was = c.index_mut.result.now in
     next_lists xs i _ c.op_of.result c.loop-operation.lists.items new c.push.new.self c.loop-operation-test.true
-    c.in_ok-reach.ensures.long c.op_of.ensures c.loop-operation.invariant c.in_ok-reach.ensures.same
+    c.in_ok-extend_lists.ensures.long c.op_of.ensures c.loop-operation.invariant c.in_ok-extend_lists.ensures.same
     (c.in_ok-push.ensures.items ∙ ap (λ (ops : List Op). ops ++ c.op_of.result ∷ [])
     (ap items_of c.index_mut.ensures.value ∙
-    sym (get_or-map items_of new (get_or xs i _).core was [] (omega (arith, c.in_ok-reach.ensures.long)))))
+    sym (get_or-map items_of new (get_or xs i _).core was [] (omega (arith, c.in_ok-extend_lists.ensures.long)))))

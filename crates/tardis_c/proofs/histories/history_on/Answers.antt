@@ -5,8 +5,8 @@ use Rattle.physiological_order.specs.Order.{flat}
 use Rattle.tardis_c.specs.Plain.{issued_of}
 use Rattle.tardis_c.proofs.histories.history_on.Goals as goal
 
-pub found_by-requires : goal.found_by-requires
-found_by-requires c =
+pub found_of_verdict-requires : goal.found_of_verdict-requires
+found_of_verdict-requires c =
     let issued = issued_of c.args.operations.now in (
       issued,
       subst (λ (rs : List Record). IsVerdict (flat c.in_ok-memory.memory) issued rs c.in_ok-verdict.verdict)

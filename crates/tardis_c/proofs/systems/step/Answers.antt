@@ -8,4 +8,4 @@ returns c =
     {answer = c.step-came.result} c.in-Some.ensures.taken
     (search rules)
     (search rules)
-    c.answer_of.ensures
+    c.c_answer.ensures

@@ -10,5 +10,5 @@ returns c =
     let text = c.args.text.now in
     let came = c.ends_report-came in
     subst (λ (o : EndsOptions). IsTold (IsEndsReport o text) (HasNoEndsInMemory o text) c.args.buffer.now
-    c.tell.new.buffer c.tell.new.long c.tell.result) c.ends_options.ensures
-    (told _ _ came.result _ _ _ _ came.ensures.report came.ensures.refused c.tell.ensures)
+    c.write_result.new.buffer c.write_result.new.long c.write_result.result) c.ends_options.ensures
+    (told _ _ came.result _ _ _ _ came.ensures.report came.ensures.refused c.write_result.ensures)

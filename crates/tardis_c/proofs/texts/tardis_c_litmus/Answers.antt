@@ -17,5 +17,5 @@ returns c =
     let text = c.args.text.now in
     let came = c.litmus_report-came in
     subst (λ (o : LitmusOptions). IsTold (IsLitmusReport o text) (HasNoReportInMemory o text) c.args.buffer.now
-    c.tell.new.buffer c.tell.new.long c.tell.result) c.litmus_options.ensures
-    (told _ _ came.result _ _ _ _ came.ensures.report came.ensures.refused c.tell.ensures)
+    c.write_result.new.buffer c.write_result.new.long c.write_result.result) c.litmus_options.ensures
+    (told _ _ came.result _ _ _ _ came.ensures.report came.ensures.refused c.write_result.ensures)

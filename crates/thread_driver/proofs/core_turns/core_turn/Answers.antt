@@ -4,12 +4,12 @@ use Rattle.thread_driver.proofs.core_turns.core_turn.Goals as goal
 
 pub returns-clause-turn : goal.returns-clause-turn
 returns-clause-turn g c = record {
-  done = c.do_next-done.result;
-  between = c.do_next-done.new.seat;
+  done = c.do_next_step-done.result;
+  between = c.do_next_step-done.new.seat;
   moved = c.turn-moved.result;
-  step_done = c.do_next-done.ensures.step;
+  step_done = c.do_next_step-done.ensures.step;
   turned = c.turn-moved.ensures.turned;
   told_is = c.told_of.ensures
-      ∙ ap₂ (λ before after. told_of before after c.do_next-done.result c.turn-moved.result)
+      ∙ ap₂ (λ before after. told_of before after c.do_next_step-done.result c.turn-moved.result)
       c.is_stopped-was_stopped.ensures c.is_stopped.ensures;
 }

@@ -38,5 +38,6 @@ returns-in-Ok-Some-clause-step g c = (
 
 pub returns-in-Err-clause-plays : goal.returns-in-Err-clause-plays
 returns-in-Err-clause-plays g c =
-    plays_not g.P.Program.acts c.args.seat.now c.refused.new.seat c.args.program.now c.requires.ahead
-    (same_both c.args.seat.now c.attempt.new.seat c.refused.new.seat c.in-Err.ensures.work c.refused.ensures.work)
+    plays_not g.P.Program.acts c.args.seat.now c.handle_refusal.new.seat c.args.program.now c.requires.ahead
+    (same_both c.args.seat.now c.attempt.new.seat c.handle_refusal.new.seat c.in-Err.ensures.work
+    c.handle_refusal.ensures.work)

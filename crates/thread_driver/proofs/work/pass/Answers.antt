@@ -8,21 +8,21 @@ use Rattle.thread_driver.proofs.work.pass.Goals as goal
 pub returns-then-look-clause-told : goal.returns-then-look-clause-told
 returns-then-look-clause-told g c =
     ap (λ (h : Said). h.finished) c.look-look.ensures.signaler.1 ∙
-    (rw (c.deref.ensures.value, c.deref-2.ensures.value) at c.tell.ensures.told)
+    (rw (c.deref.ensures.value, c.deref-2.ensures.value) at c.signal_finished_programs.ensures.told)
 
 pub returns-then-all_used-clause-told : goal.returns-then-all_used-clause-told
 returns-then-all_used-clause-told g c =
     ap (λ (h : Said). h.finished) c.look-look.ensures.signaler.1 ∙
-    (rw (c.deref.ensures.value, c.deref-2.ensures.value) at c.tell.ensures.told)
+    (rw (c.deref.ensures.value, c.deref-2.ensures.value) at c.signal_finished_programs.ensures.told)
 
 pub returns-then-ends_all-clause-told : goal.returns-then-ends_all-clause-told
 returns-then-ends_all-clause-told g c =
     ap (λ (h : Said). h.finished) c.look-look.ensures.signaler.1 ∙
-    (rw (c.deref.ensures.value, c.deref-2.ensures.value) at c.tell.ensures.told)
+    (rw (c.deref.ensures.value, c.deref-2.ensures.value) at c.signal_finished_programs.ensures.told)
 
 pub returns-clause-told : goal.returns-clause-told
 returns-clause-told g c = ap (λ (h : Said). h.finished) c.look-look.ensures.signaler.1 ∙
-    (rw (c.deref.ensures.value, c.deref-2.ensures.value) at c.tell.ensures.told)
+    (rw (c.deref.ensures.value, c.deref-2.ensures.value) at c.signal_finished_programs.ensures.told)
 
 pub returns-then-ends_all-clause-passed : goal.returns-then-ends_all-clause-passed
 returns-then-ends_all-clause-passed g c =

@@ -76,7 +76,7 @@ lines-preserved g c =
       holds = added.3;
       read = read-on g.L.FromLines.says _ _ _ _ g.L.FromLines.first i.state i.told c.lines.number i.read
           (ahead c.next_line.new.block) l.field-0 l.ensures.next c.front.result.now c.in-Some.length c.in-Some.is
-          short c.front.ensures _ added.0 added.1 c.pass.ensures added.2;
+          short c.front.ensures _ added.0 added.1 c.remove_line.ensures added.2;
       counted = l.ensures.none_failed ∙ i.counted;
       few = omega (arith, short.2);
     }

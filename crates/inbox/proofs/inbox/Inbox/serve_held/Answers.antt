@@ -15,7 +15,8 @@ returns-in-Some g c =
     values_of c.settle_held.new.held ≡ after_held f.1 k (values_of cells))) c.in-Some.found-is
     (c.settle_held.ensures.result, c.settle_held.ensures.after) in
     walk-served g.P.Receiver.table g.P.Receiver.takes_memory cells c.args.self.now c.args.part.now
-    c.args.refused c.ask_held-walk.result.refused c.ask_held-walk.result.found c.in-Some.found.0 c.in-Some.found.1
+    c.args.refused c.deliver_held-walk.result.refused c.deliver_held-walk.result.found
+    c.in-Some.found.0 c.in-Some.found.1
     _ _ _ _
     (ap (λ (b : InboxState T). b.hand) c.self.view_is) (sym (ap (λ (b : InboxState T). b.held) c.self.view_is))
-    c.in-Some.is c.ask_held-walk.ensures.walk settled.0 settled.1
+    c.in-Some.is c.deliver_held-walk.ensures.walk settled.0 settled.1

@@ -8,19 +8,19 @@ use Rattle.line_arena.proofs.Shows.{pushed_to}
 use Rattle.line_arena.proofs.Seen.{same_some}
 use Rattle.line_arena.proofs.arena.Arena.refill.Goals as goal
 
-pub lift-requires-clause-cell : goal.lift-requires-clause-cell
-lift-requires-clause-cell g c =
+pub detach-requires-clause-cell : goal.detach-requires-clause-cell
+detach-requires-clause-cell g c =
     let h = held c.self.invariant c.self.view_is c.cell.view_is c.requires.cell in (h.inside, h.is)
 
 pub unwrap-requires : goal.unwrap-requires
 unwrap-requires g c =
     let h = held c.self.invariant c.self.view_is c.cell.view_is c.requires.cell in
-    ap is_some (c.fill.ensures.value ∙ same_some _ _ (sym c.lift.ensures.value ∙ h.held_as))
+    ap is_some (c.fill.ensures.value ∙ same_some _ _ (sym c.detach.ensures.value ∙ h.held_as))
 
 pub returns-clause-value : goal.returns-clause-value
 returns-clause-value g c =
     let h = held c.self.invariant c.self.view_is c.cell.view_is c.requires.cell in
-    h.found ∙ same_some _ _ (sym h.held_as ∙ c.lift.ensures.value) ∙ sym c.fill.ensures.value ∙ c.unwrap.ensures
+    h.found ∙ same_some _ _ (sym h.held_as ∙ c.detach.ensures.value) ∙ sym c.fill.ensures.value ∙ c.unwrap.ensures
 
 pub returns-clause-after : goal.returns-clause-after
 returns-clause-after g c =
@@ -28,10 +28,10 @@ returns-clause-after g c =
     let same = length-map c.args.self.now.lists (without c.args.cell) in
     pushed_to (map (without c.cell.inside.0) (rings_of c.self.inside.chains)) c.fill.new.self c.args.item
     h.kept (omega arith) c.cell.view_is
-    (c.fill.ensures.lists ∙ ap (append_to c.args.list (c.cell.inside.0, Some c.args.item)) c.lift.ensures.lists)
-    (c.fill.ensures.sizes.0 ∙ c.lift.ensures.sizes.capacity ∙ ap (λ a. a.cells) c.self.view_is)
+    (c.fill.ensures.lists ∙ ap (append_to c.args.list (c.cell.inside.0, Some c.args.item)) c.detach.ensures.lists)
+    (c.fill.ensures.sizes.0 ∙ c.detach.ensures.sizes.capacity ∙ ap (λ a. a.cells) c.self.view_is)
 
-pub lift-requires-clause-on : goal.lift-requires-clause-on
-lift-requires-clause-on g c =
+pub detach-requires-clause-on : goal.detach-requires-clause-on
+detach-requires-clause-on g c =
     let h = held c.self.invariant c.self.view_is c.cell.view_is c.requires.cell in
     rw (ap (λ o. (or_blank o).list) h.is) h.on

@@ -43,7 +43,7 @@ returns-in-Err-clause-fault g c =
     let short = rw c.in-Some.is at l.ensures.short in
     let fields = fields_of c.front.result.now in
     let e : TraceError = record { line = s.number + 1; kind = c.in-Err.kind } in
-    let refused : said_at s.form fields ≡ Err c.in-Err.kind = cc (c.said.ensures.told, c.in-Err.is) in
+    let refused : said_at s.form fields ≡ Err c.in-Err.kind = cc (c.form_and_step.ensures.told, c.in-Err.is) in
     inr (
       l.ensures.none_failed,
       fault-of-line said_at SaysFrom FieldsCause steps-meant s.form fields e (omega arith) refused,
@@ -57,9 +57,9 @@ returns-in-Ok-clause-kept g c =
     let l = c.in_ok-length in
     let short = rw c.in-Some.is at l.ensures.short in
     let told : said_at s.form (fields_of c.front.result.now) ≡ Ok (c.in-Ok.form, c.in-Ok.told) =
-    cc (c.said.ensures.told, c.in-Ok.is) in
+    cc (c.form_and_step.ensures.told, c.in-Ok.is) in
     let t : StepStream = record {
-      block = c.pass.new.self;
+      block = c.remove_line.new.self;
       number = s.number + 1;
       form = c.in-Ok.form;
       held = c.in-Ok.told;
@@ -69,4 +69,4 @@ returns-in-Ok-clause-kept g c =
     in
     yields-both s t [] _ _
     (stream-told s c.requires _ _ (ahead c.next_line.new.block) l.field-0 l.ensures.next c.in-Some.length c.in-Some.is
-    short c.front.result.now c.front.ensures c.in-Ok.form c.in-Ok.told _ c.pass.ensures told)
+    short c.front.result.now c.front.ensures c.in-Ok.form c.in-Ok.told _ c.remove_line.ensures told)

@@ -1,6 +1,0 @@
-use Rattle.seat_rule.specs.Rule.{no_hold}
-use Rattle.seat_views.specs.Seated.{first_view}
-use Rattle.mailboxes.proofs.steps.make.Given as goal
-
-abbrev pub ghosts-make_as : goal.ghosts-make_as
-ghosts-make_as a = record { set_up = a.table.now.key; to = first_view no_hold }

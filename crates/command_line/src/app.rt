@@ -301,7 +301,10 @@ fn with_stream_options<'a>(
     let one = with(command, flag(alloc, "stream", STREAM));
     let two = with(one, option_without_default(alloc, "cores", cores, CORES));
     let three = with(two, flag(alloc, "no-words", NO_WORDS));
-    with(three, option_without_default(alloc, "progress", millions, PROGRESS))
+    with(
+        three,
+        option_without_default(alloc, "progress", millions, PROGRESS),
+    )
 }
 
 /// The command `trace`.

@@ -136,12 +136,25 @@ def followed(game, kind, out):
     return text_of([*wanted, summary(1)]), player.refused
 
 
-def swept(tester, game, kind, how=""):
+def live(tester, game, **refusals):
+    """The calls, each answered as it is read; what is written, as if the calls were a text."""
+    calls = [line.split(" : ")[0] for line in game.wanted]
+    ran = tester.run(["--live"], calls, **refusals)
+    answers = [f"{call} : {answer}" for call, answer in zip(calls, ran.out.splitlines())]
+    ran.out = text_of([*answers, *[summary(1)] * (ran.status == 0)])
+    return ran
+
+
+def of_text(tester, game, **refusals):
+    return tester.run([], game.given, **refusals)
+
+
+def swept(tester, game, kind, how="", run=of_text):
     """The 1st, 2nd, .. growth is refused, until none is left; what was refused so, by name."""
     refused, number = Counter(), 0
     while True:
         number += 1
-        ran = tester.run([], game.given, growth=f"{number}{how}")
+        ran = run(tester, game, growth=f"{number}{how}")
         wanted, here = followed(game, kind, ran.out)
         is_whole = (ran.status, ran.out, ran.error) == (0, wanted, "")
         is_cut = ran.refused and ran.status == NO_MEMORY_STATUS and wanted.startswith(ran.out)
@@ -253,6 +266,9 @@ def refused_steps(tester):
     refused = sum((swept(tester, stepped(seed), Machines) for seed in STEP_SEEDS), Counter())
     expect_all(tester, refused, ("machine", "issue", "deliver"))
     print(f"steps: refused were {told(refused)}")
+    refused = swept(tester, stepped(STEP_SEEDS[0]), Machines, run=live)
+    expect_all(tester, refused, ("machine", "issue", "deliver"))
+    print(f"calls one by one: refused were {told(refused)}")
 
 
 def refused_lists(tester):
@@ -279,3 +295,7 @@ def refused_seats(tester):
     expect_all(tester, refused, ("seats", "issue", "serve", "turn", "turn that put", "close", "arranged", "check",
                                  "stale", "numbers", "draw"))
     print(f"seats: refused were {told(refused)}")
+    # A refused reading of `with` would keep the machine that is open: this one opens without.
+    refused = swept(tester, drawn(1), Numbers, run=live) + swept(tester, seated(212), Seats, run=live)
+    expect_all(tester, refused, ("numbers", "draw", "seats", "issue", "close"))
+    print(f"seats, calls one by one: refused were {told(refused)}")

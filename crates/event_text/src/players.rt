@@ -173,7 +173,8 @@ where
 {
     let played = match is_live(rt) {
         Ok(true) => play_live(rt, player),
-        _ => play_files(rt, player),
+        Ok(false) => play_files(rt, player),
+        Err(error) => Err(error),
     };
     match played {
         Ok(status) => status,

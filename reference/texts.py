@@ -26,17 +26,18 @@ class Turned:
             fits = len(digits) <= 16 if sign == "0x" else digits.isdigit() and int(digits) <= LAST
             if fits and abs(by) <= LAST:
                 base, by = (int(digits, 16), 8 * by) if sign == "0x" else (int(digits), by)
-                self.pieces.append((text[at:found.start()] + sign, base, by, "x" if sign == "0x" else "d"))
+                self.pieces.append((text[at:found.start()], found.group(), base, by, sign))
                 at = found.end()
         self.rest = text[at:]
 
-    def text(self, turn):
-        moved = [(front, base + by * turn, form) for front, base, by, form in self.pieces]
-        if any(number > LAST for _, number, _ in moved):
+    def text(self, turn, is_call=True):
+        moved = [(front, word, base + by * turn, sign) for front, word, base, by, sign in self.pieces]
+        if is_call and any(number > LAST for _, _, number, _ in moved):
             raise Unreadable("a number is too large")
-        if any(number < 0 for _, number, _ in moved):
+        if is_call and any(number < 0 for _, _, number, _ in moved):
             raise Unreadable("a number is below 0")
-        return "".join([f"{front}{number:{form}}" for front, number, form in moved]) + self.rest
+        return "".join([front + (f"{sign}{number:{'x' if sign == '0x' else 'd'}}" if 0 <= number <= LAST else word)
+                        for front, word, number, sign in moved]) + self.rest
 
 
 class Line:
@@ -58,7 +59,7 @@ class Line:
         if not self.has_turns:
             return self.call, self.wanted
         call, wanted = self.turned
-        return call.text(turn), self.wanted and wanted.text(turn)
+        return call.text(turn), self.wanted and wanted.text(turn, False)
 
 
 def is_answer(wanted, came):

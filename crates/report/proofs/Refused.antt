@@ -9,8 +9,7 @@ use Rattle.litmus_lexer.specs.declared.errors.Kind.{Kind}
 use Rattle.litmus_lexer.specs.declared.errors.Kind.TheVariants.{NoMemory as LackOfMemory, TooLarge, BadByte}
 use Rattle.litmus_lexer.specs.declared.errors.Kind.TheVariants.{BadHeader, BadInitial, DoubleInitial, BadTable}
 use Rattle.litmus_lexer.specs.declared.errors.Kind.TheVariants.{BadInstruction, ValueRange, MixedWidth}
-use Rattle.litmus_lexer.specs.declared.errors.Kind.TheVariants.{AddressAsValue, ValueAsAddress, BadCondition}
-use Rattle.litmus_lexer.specs.declared.errors.Kind.TheVariants.{CutShort}
+use Rattle.litmus_lexer.specs.declared.errors.Kind.TheVariants.{AddressAsValue, ValueAsAddress, BadCondition, CutShort}
 use Rattle.litmus_lexer.specs.declared.errors.LitmusError.{LitmusError}
 use Rattle.litmus_lexer.specs.declared.limits.TheConstants.{MOST_BYTES}
 use Rattle.litmus_reader.specs.Faults.{Fault, FaultBefore, good_lines, too_large}

@@ -1,5 +1,5 @@
 -- Why a run in pieces has no whole report, and what was written of it until then.
-use Rattle.std.proofs.Common.{◌≡◌, ◌≢◌, ◌<◌, ℕ, Bool, true, List, Option, Result, Ok, Err, refl, sym, subst, ◌∙◌, arith}
+use Rattle.std.proofs.Common.{◌≡◌, ◌≢◌, ◌<◌, ℕ, true, List, Option, Result, Ok, Err, refl, sym, subst, ◌∙◌}
 use Rattle.std.specs.Prelude.{IfErr, OnOk}
 use Rattle.byte_streams.specs.Whole.{GrowsByFront}
 use Rattle.machine_table.specs.SetUp.{is_good}

@@ -3,7 +3,6 @@ use Rattle.std.proofs.Common.{◌≡◌, ◌≤◌, ◌<◌, ◌⊎◌, ℕ, tru
 use Rattle.std.proofs.Common.{Option, Some, None, IfSome, refl, sym, ap, subst, ◌∙◌, arith, inl, inr}
 use Rattle.std.proofs.lemmas.List.{append-nil}
 use Rattle.std.proofs.lemmas.Option.{same_Some}
-use Rattle.byte_streams.specs.Device.{AtEnd}
 use Rattle.programs.specs.declared.steps.Step.{Step}
 use Rattle.run_options.specs.declared.options.StreamOptions.{StreamOptions}
 use Rattle.streamed_runs.specs.StreamStates.{HasEnded, IsAllRead, IsGoing, IsSameRun, StreamState}

@@ -1,8 +1,7 @@
 -- A run of a trace that was read as the run went is one of the steps that were read, by core.
-use Rattle.std.proofs.Common.{◌≡◌, ◌≤◌, ◌<◌, ◌+◌, ◌-◌, ◌&&◌, ℕ, zero, suc, max, Bool, true, List, [], ◌∷◌, ◌++◌, length}
-use Rattle.std.proofs.Common.{map}
-use Rattle.std.proofs.Common.{Option, refl, sym, ap, subst, ◌∙◌, arith, inl, inr}
-use Rattle.std.proofs.lemmas.Bool.{and_parts, cases_lt, leb-true}
+use Rattle.std.proofs.Common.{◌≡◌, ◌≤◌, ◌<◌, ◌+◌, ◌-◌, ◌&&◌, ℕ, zero, suc, Bool, true, List, [], ◌∷◌, ◌++◌, length}
+use Rattle.std.proofs.Common.{refl, sym, ap, subst, ◌∙◌, arith}
+use Rattle.std.proofs.lemmas.Bool.{and_parts, leb-true}
 use Rattle.std.proofs.lemmas.List.{get_or_past}
 use Rattle.std.specs.FinMap.{FinMap, empty}
 use Rattle.std.specs.Ordering.{nat_cmp}
@@ -15,7 +14,6 @@ use Rattle.machine_table.specs.Runs.{after_all}
 use Rattle.machine_table.specs.SetUp.{is_good, is_within}
 use Rattle.machine_theorem.specs.Consistency.{IsConsistent}
 use Rattle.machine_theorem.specs.Service.{AreServed}
-use Rattle.physiological_order.specs.declared.operation.Op.{Op}
 use Rattle.physiological_order.specs.StaleHits.{RisesByNumber}
 use Rattle.programs.specs.declared.ends.End.{End}
 use Rattle.programs.specs.declared.steps.Step.{Step}
@@ -24,9 +22,8 @@ use Rattle.schedules.specs.declared.policy.Policy.{Policy}
 use Rattle.schedules.specs.Policies.{EndsBy}
 use Rattle.streamed_runs.specs.StreamStates.{issued_below, lanes_for}
 use Rattle.trace_reader.specs.Filling.{unnumbered}
-use Rattle.trace_reader.specs.Steps.{IsByCore, cores_of, lane, ops_of, trace_cores}
+use Rattle.trace_reader.specs.Steps.{cores_of, ops_of, trace_cores}
 use Rattle.worker_driver.specs.SetUp.{driver_of}
-use Rattle.worker_driver.specs.declared.set_up.Driver.{Driver}
 use Rattle.worker_driver.specs.declared.set_up.Driver.TheVariants.{ByPolicy}
 use Rattle.report.specs.Runs.{IsTraceRun, programs_below, step_acts}
 use Rattle.report.specs.Streams.{IsStreamRun, stream_config}

@@ -1,13 +1,10 @@
 -- The report on a run that was read as it went is the one on a trace, with its words or without them.
-use Rattle.std.proofs.Common.{◌≡◌, ◌≤◌, ◌&&◌, ℕ, max, Bool, true, false, List, [], ◌∷◌, ◌++◌, length, map, refl, sym}
-use Rattle.std.proofs.Common.{ap}
-use Rattle.std.proofs.Common.{◌∙◌, subst, arith}
+use Rattle.std.proofs.Common.{◌≡◌, ℕ, max, Bool, true, false, List, [], ◌++◌, map, sym, ap, ◌∙◌, arith}
 use Rattle.std.proofs.lemmas.List.{append-nil, nil_from_length}
-use Rattle.std.specs.FinMap.{FinMap, empty, entries, len-empty, len-entries}
+use Rattle.std.specs.FinMap.{empty, entries, len-empty, len-entries}
 use Rattle.std.specs.Ordering.{nat_cmp}
 use Rattle.machine_table.specs.Machine.{Machine}
 use Rattle.machine_theorem.specs.Coherence.{coherent}
-use Rattle.physiological_order.specs.declared.operation.Record.{Record}
 use Rattle.physiological_order.specs.declared.verdict.Verdict.TheVariants.{Legal as LegalVerdict}
 use Rattle.physiological_order.specs.StaleHits.{stale_count}
 use Rattle.programs.specs.declared.steps.Step.{Step}

@@ -14,7 +14,7 @@ use Rattle.run_options.specs.declared.options.StreamOptions.{StreamOptions}
 use Rattle.streamed_runs.specs.StreamStates.{StreamState}
 use Rattle.trace_texts.specs.Reports.{kinds_of}
 use Rattle.report.specs.Answers.{TextGoesOut}
-use Rattle.report.specs.Progress.{AreTold, IsProgress, lines_told, progress_line, times_passed, times_told}
+use Rattle.report.specs.Progress.{AreTold, IsProgress, lines_told, progress_line, times_passed}
 use Rattle.report.specs.StreamParts.{HasGoneOut, IsTelling, is_due, line_if}
 use Rattle.report.specs.Streams.{IsRunSoFar}
 use Rattle.report.proofs.WrittenPieces.{Bytes, Grows-append, front_more, grows_none}

@@ -4,8 +4,7 @@ use Rattle.std.proofs.Common.{subst, inl, inr, arith}
 use Rattle.run_results.specs.declared.results.RunError.TheVariants.{Trace}
 use Rattle.trace_lines.specs.declared.errors.Kind.{Kind}
 use Rattle.trace_lines.specs.declared.errors.Kind.TheVariants.{Read, NoMemory, TooLong, BadCore, BadOperation}
-use Rattle.trace_lines.specs.declared.errors.Kind.TheVariants.{BadAddress, BadValue, ExtraWords, BadForm}
-use Rattle.trace_lines.specs.declared.errors.Kind.TheVariants.{DoubleWord}
+use Rattle.trace_lines.specs.declared.errors.Kind.TheVariants.{BadAddress, BadValue, ExtraWords, BadForm, DoubleWord}
 use Rattle.trace_lines.specs.declared.errors.TraceError.{TraceError}
 use Rattle.trace_reader.specs.Outcomes.{IsCaused, IsOfLine, Refused, WantsMemory, whole}
 use Rattle.report.specs.Refusals.{IsFault, IsUnread, refusal, refusal_of}

@@ -1,7 +1,6 @@
 -- What went out of a run that was read as it went: its records so far, or its whole report.
-use Rattle.std.proofs.Common.{◌≡◌, ◌≤◌, ◌<◌, ◌&&◌, ◌-◌, not, ℕ, max, Bool, true, false, List, [], ◌∷◌, ◌++◌, length}
-use Rattle.std.proofs.Common.{map}
-use Rattle.std.proofs.Common.{Option, Some, None, IfSome, refl, sym, ap, subst, ◌∙◌, arith, inl, inr, append_assoc}
+use Rattle.std.proofs.Common.{◌≡◌, ◌&&◌, ◌-◌, not, ℕ, Bool, true, false, List, [], ◌∷◌, ◌++◌}
+use Rattle.std.proofs.Common.{Option, Some, None, refl, sym, ap, subst, ◌∙◌, arith, inl, inr, append_assoc}
 use Rattle.std.proofs.lemmas.Grind.{flat_map-append}
 use Rattle.std.proofs.lemmas.List.{append-nil}
 use Rattle.std.proofs.Math.Bool.{and-true}
@@ -11,18 +10,14 @@ use Rattle.byte_streams.specs.Whole.{GrowsByFront}
 use Rattle.machine_table.specs.Opening.{at_start}
 use Rattle.machine_table.specs.SetUp.{is_good}
 use Rattle.physiological_order.specs.declared.operation.Record.{Record}
-use Rattle.programs.specs.declared.ends.End.{End}
-use Rattle.programs.specs.declared.steps.Step.{Step}
-use Rattle.report_lines.specs.declared.layout.Layout.{Layout}
 use Rattle.run_options.specs.declared.options.StreamOptions.{StreamOptions}
 use Rattle.schedules.specs.Policies.{EndsBy}
 use Rattle.streamed_runs.specs.StreamStates.{StreamState, lanes_for}
 use Rattle.streamed_runs.proofs.Lemmas.{run_so_far}
-use Rattle.text_lines.specs.Lines.{lines_of}
 use Rattle.trace_reader.specs.Filling.{unnumbered}
-use Rattle.trace_reader.specs.Steps.{named, trace_cores}
+use Rattle.trace_reader.specs.Steps.{named}
 use Rattle.trace_reader.specs.Streams.{coming}
-use Rattle.trace_texts.specs.Records.{AreRanged, IsRanged, record_text, records_text}
+use Rattle.trace_texts.specs.Records.{AreRanged, record_text, records_text}
 use Rattle.trace_texts.proofs.Lemmas.{line-each, text-stands, writable}
 use Rattle.worker_driver.specs.SetUp.{limit_of}
 use Rattle.report.specs.Answers.{IsCutOff, IsReported}
@@ -30,7 +25,7 @@ use Rattle.report.specs.Layouts.{layout_of}
 use Rattle.report.specs.Progress.{IsProgress, IsToldReport}
 use Rattle.report.specs.Reports.{TellsRecords}
 use Rattle.report.specs.Runs.{is_all_done, step_acts}
-use Rattle.report.specs.StreamParts.{HasRun, HasWritten, IsRunning, text_if, text_told, text_unless}
+use Rattle.report.specs.StreamParts.{HasRun, HasWritten, IsRunning, text_if, text_unless}
 use Rattle.report.specs.Streams.{IsBegun, IsRunSoFar, IsStreamReport, IsStreamRun, IsStreamText, TellsStream}
 use Rattle.report.specs.Streams.{stream_config, stream_text}
 use Rattle.report.proofs.StreamedPieces.{read_so_far}

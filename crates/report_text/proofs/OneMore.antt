@@ -12,8 +12,7 @@ use Rattle.indexmap.specs.IndexMap.{insert_entry}
 use Rattle.report_text.specs.declared.run_end.RunEnd.{RunEnd}
 use Rattle.report_text.specs.Ends.{done_state}
 use Rattle.report_text.specs.States.{NamedValues, count_of_state, state_entries, done_states, one_more, same_state}
-use Rattle.report_text.specs.States.{tallied, times_met}
-use Rattle.report_text.specs.States.{without_state}
+use Rattle.report_text.specs.States.{tallied, times_met, without_state}
 
 abbrev option_list : Option NamedValues → List NamedValues
 option_list (Some s) = s ∷ []

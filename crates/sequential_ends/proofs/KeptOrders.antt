@@ -10,8 +10,7 @@ use Rattle.sequential_machine.proofs.Lemmas.{lists_count}
 use Rattle.sequential_ends.specs.Packed.{packed, IsRowOf}
 use Rattle.sequential_ends.specs.Rows.{of_one_row, with_ordered}
 use Rattle.sequential_ends.specs.Layers.{has_turn}
-use Rattle.sequential_ends.specs.Orders.{with_turn, LedBy, IsOrderOf, IsEndOrder, AreLed, AreEndOrders}
-use Rattle.sequential_ends.specs.Orders.{opened, turn}
+use Rattle.sequential_ends.specs.Orders.{with_turn, LedBy, IsOrderOf, IsEndOrder, AreLed, AreEndOrders, opened, turn}
 use Rattle.sequential_ends.proofs.LayerPoints.{each_added, turn_over}
 
 row_itself : (row : List ℕ × List ℕ) → of_one_row row row ≡ true

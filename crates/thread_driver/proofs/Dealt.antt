@@ -1,7 +1,6 @@
 -- What workers were dealt, and what is gathered from them once they worked.
 use Rattle.std.proofs.Common.{◌≡◌, ℕ, zero, suc, ◌+◌, ◌*◌, ◌%◌, ◌<◌, Bool, false, ◌||◌, List, [], ◌∷◌, length, map}
-use Rattle.std.proofs.Common.{Some}
-use Rattle.std.proofs.Common.{sym, refl, ap, ap₂, ◌∙◌, subst, arith, mod-eq_of_lt}
+use Rattle.std.proofs.Common.{Some, sym, refl, ap, ap₂, ◌∙◌, subst, arith, mod-eq_of_lt}
 use Rattle.std.specs.Prelude.{slice_get, slice_index_or}
 use Rattle.std.specs.List.{list_any, zip}
 use Rattle.std.proofs.lemmas.List.{length-map}

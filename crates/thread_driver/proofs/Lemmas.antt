@@ -1,7 +1,6 @@
 -- What the proofs of this crate give to those above: turns of a core's seat with its program, one after the other, and
 -- what a seat was issued.
-use Rattle.std.proofs.Common.{List, [], ◌++◌, None, refl, sym, ap, ◌∙◌}
-use Rattle.std.proofs.Common.{append-nil, append_assoc}
+use Rattle.std.proofs.Common.{List, [], ◌++◌, None, refl, sym, ap, ◌∙◌, append-nil, append_assoc}
 use Rattle.physiological_order.specs.declared.operation.Record.{Record}
 use Rattle.mailboxes.specs.declared.core_seat.CoreSeat.{CoreSeat}
 use Rattle.programs.specs.Acts.{Acts}

@@ -6,8 +6,7 @@ use Rattle.std.proofs.lemmas.Bool.{or_from, or_parts, or_right}
 use Rattle.thread_driver.specs.declared.told.Told.{Told}
 use Rattle.thread_driver.specs.Given.{TurnsGiven, more, quiet, rests, told_by_both}
 use Rattle.thread_driver.specs.Teams.{InARow, PassGiven, ends, ends_all, follows, goes_on, is_followed, is_used}
-use Rattle.thread_driver.specs.Teams.{row_end}
-use Rattle.thread_driver.specs.Teams.{stops}
+use Rattle.thread_driver.specs.Teams.{row_end, stops}
 use Rattle.thread_driver.proofs.Lists.{none_some, some_is}
 use Rattle.thread_driver.proofs.Sums.{or_swap, told_assoc, told_quiet}
 

@@ -1,6 +1,5 @@
 -- What one step of a program comes to.
-use Rattle.std.proofs.Common.{◌≡◌, [], ◌∷◌, Option, Some, None, IfSome, sym, subst, ◌∙◌}
-use Rattle.std.proofs.Common.{append-nil}
+use Rattle.std.proofs.Common.{◌≡◌, [], ◌∷◌, Option, Some, None, IfSome, sym, subst, ◌∙◌, append-nil}
 use Rattle.physiological_order.specs.declared.operation.Op.{Op}
 use Rattle.physiological_order.specs.declared.operation.Record.{Record}
 use Rattle.mailboxes.specs.declared.core_seat.CoreSeat.{CoreSeat}

@@ -21,8 +21,7 @@ use Rattle.programs.specs.declared.steps.Step.TheVariants as step
 use Rattle.programs.specs.Acts.{Acts}
 use Rattle.thread_driver.specs.declared.told.Told.{Told}
 use Rattle.thread_driver.specs.Calls.{RoomMade}
-use Rattle.thread_driver.specs.Given.{AllGiven, none, one_more}
-use Rattle.thread_driver.specs.Given.{TurnsGiven, rests, more, quiet, told_by_both}
+use Rattle.thread_driver.specs.Given.{AllGiven, none, one_more, TurnsGiven, rests, more, quiet, told_by_both}
 use Rattle.thread_driver.specs.Reports.{BankLacked, BankStopped, CoreLacked, CoreStopped, IsDecided, IsReport, Moved}
 use Rattle.thread_driver.specs.Reports.{OneOf, OneOfAll, SomeLacked, SomeStopped, Stopped, Went, moved_in}
 use Rattle.thread_driver.specs.Shifts.{Ran, end_told}

@@ -1,7 +1,6 @@
 -- Turns that all of a list were given: one pass more, what is at each place, and lists that were dealt to hands.
 use Rattle.std.proofs.Common.{◌≡◌, inl, inr, ⊎_elim, ℕ, zero, suc, ◌+◌, ◌*◌, ◌/◌, ◌%◌, ◌<◌, ◌≤◌, Bool, true, false}
-use Rattle.std.proofs.Common.{◌||◌}
-use Rattle.std.proofs.Common.{List, [], ◌∷◌}
+use Rattle.std.proofs.Common.{◌||◌, List, [], ◌∷◌}
 use Rattle.std.proofs.Common.{length, Some, get_or, refl, sym, ap, ap₂, subst, ◌∙◌, arith, true≢false}
 use Rattle.std.specs.Prelude.{replicate, slice_get}
 use Rattle.std.specs.List.{list_any}
@@ -10,8 +9,7 @@ use Rattle.std.proofs.lemmas.Nat.{mod_below}
 use Rattle.round_robin.specs.Dealing.{IsDealtInTurn, hand_of}
 use Rattle.round_robin.proofs.Lemmas.{item_at, lengths_of, same_place, split_place, turn_of}
 use Rattle.thread_driver.specs.declared.told.Told.{Told}
-use Rattle.thread_driver.specs.Given.{AllGiven, TurnsGiven, quiet, told_by_both}
-use Rattle.thread_driver.specs.Given.{none, one_more, rests}
+use Rattle.thread_driver.specs.Given.{AllGiven, TurnsGiven, quiet, told_by_both, none, one_more, rests}
 use Rattle.thread_driver.specs.Teams.{AreUsed, PassGiven, ends, goes_on, row_end}
 use Rattle.thread_driver.proofs.Lists.{none_some, some_is}
 use Rattle.thread_driver.proofs.Passes.{given_row, row_gives, row_rises, row_within}

@@ -1,8 +1,7 @@
 -- Turns of seats, one after the other: what stays so of a seat. And a worker after it told what is finished, and in and
 -- after a pass.
 use Rattle.std.proofs.Common.{◌≡◌, ℕ, zero, suc, ◌+◌, ◌<◌, ◌≤◌, Bool, false, List, length, Some, ⊎_elim, refl, sym}
-use Rattle.std.proofs.Common.{ap, ap₂, subst, ◌∙◌}
-use Rattle.std.proofs.Common.{arith}
+use Rattle.std.proofs.Common.{ap, ap₂, subst, ◌∙◌, arith}
 use Rattle.std.specs.Prelude.{replicate, slice_get, slice_index_or, slice_set}
 use Rattle.std.specs.List.{zip}
 use Rattle.std.proofs.lemmas.Option.{slice_get_within}
@@ -13,8 +12,7 @@ use Rattle.mailboxes.specs.Seats.{AllBankSeats, AllCoreSeats, IsBankSeat, IsCore
 use Rattle.programs.specs.Acts.{Acts}
 use Rattle.thread_driver.specs.declared.told.Told.{Told}
 use Rattle.thread_driver.specs.declared.worker.Worker.{Worker}
-use Rattle.thread_driver.specs.Given.{IsBankTurn, IsCoreTurn, SeatsGiven}
-use Rattle.thread_driver.specs.Given.{TurnsGiven, more, quiet, rests, told_by_both}
+use Rattle.thread_driver.specs.Given.{IsBankTurn, IsCoreTurn, SeatsGiven, TurnsGiven, more, quiet, rests, told_by_both}
 use Rattle.thread_driver.specs.Teams.{HasCounts, InARow, PassGiven, SeatsPassed, ends_all, row_end}
 use Rattle.thread_driver.specs.Playing.{AreAhead, IsAhead, Plays}
 use Rattle.thread_driver.proofs.Lemmas.{plays_both, plays_none}

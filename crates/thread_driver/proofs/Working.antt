@@ -17,8 +17,7 @@ use Rattle.thread_driver.specs.declared.worker.Worker.{Worker}
 use Rattle.thread_driver.specs.Given.{quiet, told_by_both}
 use Rattle.thread_driver.specs.Playing.{AreAhead}
 use Rattle.thread_driver.specs.Teams.{HasCounts, HasUsedAll, HasWorked, IsAtWork, IsReady, SeatsPassed, ends_all}
-use Rattle.thread_driver.specs.Teams.{over_in}
-use Rattle.thread_driver.specs.Teams.{rested}
+use Rattle.thread_driver.specs.Teams.{over_in, rested}
 use Rattle.thread_driver.proofs.Counted.{over_rises}
 use Rattle.thread_driver.proofs.Passes.{none_ends, second_ends}
 use Rattle.thread_driver.proofs.Pairs.{pairs_few}

@@ -1,7 +1,6 @@
 -- Steps that were read ahead, one after the other.
-use Rattle.std.proofs.Common.{◌≡◌, ◌≢◌, ℕ, ◌+◌, ◌<◌, ◌≤◌, max, min, ◌==◌, Bool, true, false, cond, List, [], ◌∷◌, ◌++◌}
-use Rattle.std.proofs.Common.{length}
-use Rattle.std.proofs.Common.{Option, Some, None, refl, sym, ap, ap₂, subst, ◌∙◌, append_assoc, arith, inl, inr}
+use Rattle.std.proofs.Common.{◌≡◌, ◌≢◌, ℕ, ◌+◌, ◌<◌, ◌≤◌, max, min, ◌==◌, Bool, true, false, List, [], ◌∷◌, ◌++◌}
+use Rattle.std.proofs.Common.{length, Option, Some, None, refl, sym, ap, ap₂, subst, ◌∙◌, append_assoc, arith, inl, inr}
 use Rattle.std.specs.Prelude.{◌⊎◌, ◌-◌, Result, Ok}
 use Rattle.std.specs.FinMap.{FinMap, insert}
 use Rattle.std.specs.Ordering.{nat_cmp}
@@ -10,14 +9,13 @@ use Rattle.std.proofs.lemmas.List.{append-nil}
 use Rattle.physiological_order.specs.Order.{address}
 use Rattle.programs.specs.declared.steps.Step.{Step}
 use Rattle.programs.specs.declared.steps.Step.TheVariants as step
-use Rattle.trace_lines.specs.declared.errors.TraceError.{TraceError}
 use Rattle.trace_reader.specs.declared.read_ahead.AheadError.{AheadError}
 use Rattle.trace_reader.specs.declared.read_ahead.AheadError.TheVariants.{Text, NoQueue, NoMemory}
 use Rattle.trace_reader.specs.declared.step_streams.StepStream.{StepStream}
 use Rattle.trace_reader.specs.Filling.{AheadState, AreKept, AreNeeded, AreQueued, AreTooFew}
 use Rattle.trace_reader.specs.Filling.{HasTaken, HasTakenOne, Stops, unnumbered}
 use Rattle.trace_reader.specs.Steps.{cores_of, lane, named, ops_of, steps_of}
-use Rattle.trace_reader.specs.Streams.{coming, where_known, Interrupts, OnlyFault, StepsTold, Yields}
+use Rattle.trace_reader.specs.Streams.{coming, where_known, StepsTold, Yields}
 use Rattle.trace_reader.proofs.StreamLines.{yields-more}
 
 abbrev Queues : Type 0
@@ -25,12 +23,6 @@ Queues = List (List Step)
 
 abbrev Steps : Type 0
 Steps = List (ℕ × (ℕ × Step))
-
--- a step in the queue of its core, or another queue
-pub one-queued : (b : Bool) (steps : List Step) (s : Step) →
-    cond b (steps ++ s ∷ []) steps ≡ steps ++ cond b (s ∷ []) []
-one-queued true steps s = refl
-one-queued false steps s = sym (append-nil steps)
 
 pub steps-append : (core : ℕ) (xs ys : Steps) →
     steps_of core (unnumbered (xs ++ ys)) ≡ steps_of core (unnumbered xs) ++ steps_of core (unnumbered ys)
@@ -138,19 +130,6 @@ still-some old new taken core are some = λ e.
     some-more (lane old core) (steps_of core (unnumbered taken)) some (sym (are.1 core) ∙ e)
 
 -- ---- why no more is read
-
-pub only-known : (s t : StepStream) (a b : Option (List ℕ)) (fault : Option TraceError) →
-    Yields (coming s a) (coming t b) [] → OnlyFault fault (coming s a) →
-    OnlyFault fault (where_known a (coming t b))
-only-known s t None b fault p q = tt
-only-known s t (Some x) None fault p q = absurd p
-only-known s t (Some x) (Some y) fault p q = sym p ∙ q
-
-pub interrupts-known : (s t : StepStream) (a b : Option (List ℕ)) (old new : ℕ) (e : TraceError) →
-    Yields (coming s a) (coming t b) [] → Interrupts old new (coming s a) e →
-    Interrupts old new (where_known a (coming t b)) e
-interrupts-known s t a b old new e p (inl f) = inl f
-interrupts-known s t a b old new e p (inr f) = inr (f.0, f.1, only-known s t a b (Some e) p f.2)
 
 pub stops-known : (a : Option (List ℕ)) (to_come : Option StepsTold) (queues old new : ℕ) (e : AheadError) →
     Stops queues old new to_come e → Stops queues old new (where_known a to_come) e

@@ -37,19 +37,6 @@ pub yields-none : (a : Option StepsTold) → Yields a a []
 yields-none None = tt
 yields-none (Some x) = refl
 
-pub only-more : (a b : Option StepsTold) (fault : Option TraceError) → Yields a b [] → OnlyFault fault b →
-    OnlyFault fault a
-only-more None b fault p q = tt
-only-more (Some x) None fault p q = absurd p
-only-more (Some x) (Some y) fault p q = p ∙ q
-
--- a source whose bytes were known is at its end
-pub end-more : (s t : StepStream) (a b c : Option (List ℕ)) → Yields (coming s a) (coming t b) [] →
-    IfSome b (λ known. AtEnd c) → IfSome a (λ known. AtEnd c)
-end-more s t None b c p q = tt
-end-more s t (Some x) None c p q = absurd p
-end-more s t (Some x) (Some y) c p q = q
-
 -- ---- one line
 
 pub yields-both : (s t : StepStream) (steps : Steps) (a b : Option (List ℕ)) →

@@ -12,8 +12,7 @@ use Rattle.trace_texts.specs.Records.{AreRanged}
 use Rattle.report.proofs.StoppedPieces.{not_written, unread}
 use Rattle.report.proofs.StreamedSteps.{laws_by}
 use Rattle.report.proofs.ToldProgress.{more_told, none_told, progress_of}
-use Rattle.report.proofs.WrittenPieces.{begun, cut, is_run_so_far, more_written, none_written}
-use Rattle.report.proofs.WrittenPieces.{reported_in_part, told}
+use Rattle.report.proofs.WrittenPieces.{begun, cut, is_run_so_far, more_written, none_written, reported_in_part, told}
 use Rattle.report.proofs.streams.stream_in_pieces.Goals as goal
 
 pub pieces-init : goal.pieces-init

@@ -1,5 +1,4 @@
-use Rattle.std.proofs.Common.{◌≤◌, [], ◌∷◌, ◌++◌, length, map, sym, ap, ◌∙◌, subst, append_assoc, arith}
-use Rattle.std.proofs.Common.{length-append}
+use Rattle.std.proofs.Common.{◌≤◌, [], ◌∷◌, ◌++◌, length, map, sym, ap, ◌∙◌, subst, append_assoc, arith, length-append}
 use Rattle.std.specs.Prelude.{replicate}
 use Rattle.thread_driver.specs.declared.worker.Worker.{Worker}
 use Rattle.thread_driver.specs.declared.worker.Hands.{Hands}

@@ -1,5 +1,4 @@
-use Rattle.std.proofs.Common.{[], ◌∷◌, ◌+◌, List, length, ap, sym, subst, ◌∙◌}
-use Rattle.std.proofs.Common.{length-append}
+use Rattle.std.proofs.Common.{[], ◌∷◌, ◌+◌, List, length, ap, sym, subst, ◌∙◌, length-append}
 use Rattle.std.specs.List.{AllByRecursion}
 use Rattle.litmus_reader.specs.TestViews.{test_of}
 use Rattle.report_text.specs.declared.run_end.RunEnd.{RunEnd}

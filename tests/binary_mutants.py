@@ -386,6 +386,20 @@ BY_HAND = {
     "  switch i8 %a0, label %c.1 [\n    i8 0, label %b.1\n    i8 4, label %b.2\n  ]": ["branch", "branch"],
     "  %r1 = mul i64 %a0, 24": [], "  %r1 = load i64, ptr %a0, align 8": [],
 }
+LARGE = """define internal void @"a::f"() #0 {{
+start:
+  call void @"a::g"()
+  ret void
+}}
+define internal void @"a::h"() alwaysinline #0 {{
+start:
+  ret void
+}}
+define internal void @"a::g"() alwaysinline #0 {{
+start:
+{}  ret void
+}}
+""".format(2048 * "  store i8 0, ptr %a0\n")
 FUNCTION = """@b = constant i8 1
 
 define internal i64 @"a::f"(ptr noundef %a0) #0 {{
@@ -418,7 +432,10 @@ def self_test():
     said = io.StringIO()
     with tempfile.TemporaryDirectory() as folder, contextlib.redirect_stdout(said), contextlib.redirect_stderr(said):
         wrong = list(self_test_of_asking(Path(folder, "kept")))
+        inlined = own_module.small_inlined(LARGE)
     yield from wrong
+    if inlined != LARGE.replace('g"() alwaysinline', 'g"() inlinehint'):
+        yield "a function that is too large is always inlined, or another one isn't"
     if "survives: a::f | 1: a => b\nno command comes by: a::f | 4: a => b\nsurvives: a::f | 5" not in said.getvalue():
         yield f"what is printed: {said.getvalue()}"
     with tempfile.TemporaryDirectory() as folder:

@@ -1,7 +1,8 @@
 //! What lines ask for: an opening, events, programs and drives, and look-ups.
 
 use event_text::{
-    Cause, Opening, Part, Seat, Turn, Words, behind, read_opening, read_words, row_of,
+    Cause, Opening, Part, Seat, Turn, Words, read_opening, read_reopening_words, table_row_of_name,
+    text_after_prefix,
 };
 use interleaving_core::Event;
 use physiological_order::{Op, WordAddr};
@@ -100,25 +101,25 @@ const LOOKS: &[(&str, (What, bool, Part))] = &[
 fn event_of(name: &str, words: &mut Words<'_>) -> Result<Event, Cause> {
     match name {
         "issue" => {
-            let core = words.small()?;
-            Ok(Event::Issue(core, words.operation()?))
+            let core = words.next_small_number()?;
+            Ok(Event::Issue(core, words.next_operation()?))
         }
-        "attempt" => Ok(Event::Attempt(words.small()?)),
-        "deliver" => Ok(Event::Deliver(words.message()?)),
-        "evict" => match words.seat()? {
-            Seat::Core(core) => Ok(Event::EvictCache(core, words.line()?)),
-            Seat::Bank(bank) => Ok(Event::EvictBank(bank, words.line()?)),
+        "attempt" => Ok(Event::Attempt(words.next_small_number()?)),
+        "deliver" => Ok(Event::Deliver(words.next_message_number()?)),
+        "evict" => match words.next_seat()? {
+            Seat::Core(core) => Ok(Event::EvictCache(core, words.next_line_number()?)),
+            Seat::Bank(bank) => Ok(Event::EvictBank(bank, words.next_line_number()?)),
         },
-        "advance" => Ok(Event::Advance(words.small()?)),
+        "advance" => Ok(Event::Advance(words.next_small_number()?)),
         _ => Err(Cause::Event),
     }
 }
 
 /// The event that a text calls for, and no more.
 fn event(mut words: Words<'_>) -> Result<Event, Cause> {
-    let name = words.wanted(Cause::Event)?;
+    let name = words.required_word(Cause::Event)?;
     let event = event_of(name, &mut words)?;
-    words.end()?;
+    words.expect_end()?;
     Ok(event)
 }
 
@@ -126,7 +127,7 @@ fn event(mut words: Words<'_>) -> Result<Event, Cause> {
 fn events(alloc: Global, turn: &Turn<'_>, line_words: u32) -> Result<Vec<Event>, Cause> {
     let _inside: Option<Op> = None;
     let mut events = Vec::new(alloc);
-    for part in turn.parts() {
+    for part in turn.call_parts() {
         events.push(event(Words::new(part, turn.turn, line_words))?)?;
     }
     Ok(events)
@@ -134,17 +135,20 @@ fn events(alloc: Global, turn: &Turn<'_>, line_words: u32) -> Result<Vec<Event>,
 
 /// A step that a text names, and how often it is repeated.
 fn steps_of(mut words: Words<'_>) -> Result<(u32, Step), Cause> {
-    let word = words.wanted(Cause::Operation)?;
-    let (times, word) = match words.number_in(word) {
-        Ok(_) => (words.small_in(word)?, words.wanted(Cause::Operation)?),
+    let word = words.required_word(Cause::Operation)?;
+    let (times, word) = match words.number_of_word(word) {
+        Ok(_) => (
+            words.small_number_of_word(word)?,
+            words.required_word(Cause::Operation)?,
+        ),
         Err(_) => (1, word),
     };
     if word == "A" {
-        words.end()?;
+        words.expect_end()?;
         return Ok((times, Step::Advance));
     }
-    let op = words.operation_of(word)?;
-    words.end()?;
+    let op = words.operation_from_word(word)?;
+    words.expect_end()?;
     Ok((times, Step::Op(op)))
 }
 
@@ -167,12 +171,12 @@ fn add_steps(steps: &mut Vec<Step>, words: Words<'_>) -> Result<(), Cause> {
 /// A core and its steps; a program without words has none.
 fn program(alloc: Global, turn: &Turn<'_>) -> Result<Call, Cause> {
     let mut steps = Vec::new(alloc);
-    let mut parts = turn.parts();
+    let mut parts = turn.call_parts();
     let first = parts.next().unwrap_or("").trim();
     let mut words = Words::new(first, turn.turn, 1);
-    let name = words.wanted(Cause::Number)?;
-    let core = words.small_in(name)?;
-    let rest = behind(first, name);
+    let name = words.required_word(Cause::Number)?;
+    let core = words.small_number_of_word(name)?;
+    let rest = text_after_prefix(first, name);
     if !rest.is_empty() {
         add_steps(&mut steps, Words::new(rest, turn.turn, 1))?;
     }
@@ -185,16 +189,20 @@ fn program(alloc: Global, turn: &Turn<'_>) -> Result<Call, Cause> {
 /// The look-up that a name and the next words ask for.
 fn read_look(name: &str, words: &mut Words<'_>) -> Result<Look, Cause> {
     if name == "word" {
-        let at = words.address()?.byte();
+        let at = words.next_address()?.byte();
         return Ok(Look {
             what: What::Word,
             number: 0,
             at,
         });
     }
-    let (what, has_number, next) = row_of(LOOKS, name).ok_or(Cause::Call)?;
-    let number = if has_number { words.small()? } else { 0 };
-    let at = words.part(next)?;
+    let (what, has_number, next) = table_row_of_name(LOOKS, name).ok_or(Cause::Call)?;
+    let number = if has_number {
+        words.next_small_number()?
+    } else {
+        0
+    };
+    let at = words.next_part(next)?;
     Ok(Look { what, number, at })
 }
 
@@ -202,17 +210,17 @@ fn read_look(name: &str, words: &mut Words<'_>) -> Result<Look, Cause> {
 fn call_of(alloc: Global, name: &str, words: &mut Words<'_>) -> Result<Call, Cause> {
     match name {
         "machine" => Ok(Call::Machine(read_opening(alloc, words)?)),
-        "reopen" => Ok(Call::Reopen(read_words(alloc, words)?)),
+        "reopen" => Ok(Call::Reopen(read_reopening_words(alloc, words)?)),
         "issue" | "attempt" | "deliver" | "evict" | "advance" => {
             Ok(Call::Event(event_of(name, words)?))
         }
-        "rounds" => Ok(Call::Drive(Policy::Rounds, words.small()?)),
-        "fair-rounds" => Ok(Call::Drive(Policy::FairRounds, words.small()?)),
+        "rounds" => Ok(Call::Drive(Policy::Rounds, words.next_small_number()?)),
+        "fair-rounds" => Ok(Call::Drive(Policy::FairRounds, words.next_small_number()?)),
         "seed" => {
-            let seed = words.number()?;
-            Ok(Call::Drive(Policy::Seed(seed), words.small()?))
+            let seed = words.next_number()?;
+            Ok(Call::Drive(Policy::Seed(seed), words.next_small_number()?))
         }
-        "made" => Ok(Call::Made(words.small()?)),
+        "made" => Ok(Call::Made(words.next_small_number()?)),
         "counts" => Ok(Call::Counts),
         "order" => order(words),
         _ => Ok(Call::Look(read_look(name, words)?)),
@@ -235,13 +243,13 @@ fn order(words: &mut Words<'_>) -> Result<Call, Cause> {
 
 /// What a line asks for, for a machine with this many words in a line.
 pub(crate) fn read_call(alloc: Global, turn: &Turn<'_>, line_words: u32) -> Result<Call, Cause> {
-    let mut words = turn.words(line_words);
+    let mut words = turn.call_words(line_words);
     match words.next_word().unwrap_or("") {
         "run" => Ok(Call::Run(events(alloc, turn, line_words)?)),
         "program" => program(alloc, turn),
         name => {
             let call = call_of(alloc, name, &mut words)?;
-            words.end()?;
+            words.expect_end()?;
             Ok(call)
         }
     }

@@ -2,7 +2,7 @@
 //! did.
 
 use crate::turns::Turns;
-use event_text::{Reply, kind_of, name_of_kind};
+use event_text::{Reply, message_kind_index, message_kind_name};
 use interleaving_core::{Answer, Event, Message, MsgNo, Node, Refusal, System};
 use physiological_order::{Memory, Op, Record};
 use schedules::Policy;
@@ -79,7 +79,7 @@ fn bank_of(node: Node) -> Option<u32> {
 
 fn mark_of(message: &Message) -> Mark {
     Mark {
-        kind: kind_of(&message.body),
+        kind: message_kind_index(&message.body),
         core: core_of(message.from).or(core_of(message.to)),
         bank: bank_of(message.from).or(bank_of(message.to)),
     }
@@ -106,8 +106,8 @@ impl Mail {
     fn put(&self, out: &mut Reply) {
         for (kind, (sent, delivered)) in self.kinds.iter().enumerate() {
             if *sent > 0 {
-                out.named(name_of_kind(kind), *sent);
-                out.number(*delivered);
+                out.put_named_number(message_kind_name(kind), *sent);
+                out.put_number(*delivered);
             }
         }
     }
@@ -149,14 +149,14 @@ impl OfCore {
     }
 
     fn put(&self, out: &mut Reply) {
-        out.named("loads", self.loads);
-        out.named("stores", self.stores);
-        out.named("swaps", self.swaps);
-        out.named("hits", self.hits);
-        out.named("misses", self.misses);
-        out.named("stale", self.stale);
-        out.named("evicted", self.evicted);
-        out.named("time", self.time);
+        out.put_named_number("loads", self.loads);
+        out.put_named_number("stores", self.stores);
+        out.put_named_number("swaps", self.swaps);
+        out.put_named_number("hits", self.hits);
+        out.put_named_number("misses", self.misses);
+        out.put_named_number("stale", self.stale);
+        out.put_named_number("evicted", self.evicted);
+        out.put_named_number("time", self.time);
         self.mail.put(out);
     }
 }
@@ -285,16 +285,16 @@ impl Counted {
     /// Writes the counts of the run.
     pub(crate) fn put(&self, out: &mut Reply) {
         for (core, of) in self.cores.iter().enumerate() {
-            out.named("core", core as u64);
+            out.put_named_number("core", core as u64);
             of.put(out);
-            out.add("; ");
+            out.put_text("; ");
         }
         for (bank, of) in self.banks.iter().enumerate() {
-            out.named("bank", bank as u64);
-            out.named("evicted", of.evicted);
+            out.put_named_number("bank", bank as u64);
+            out.put_named_number("evicted", of.evicted);
             of.mail.put(out);
-            out.add("; ");
+            out.put_text("; ");
         }
-        out.named("turns", self.turns.count);
+        out.put_named_number("turns", self.turns.count);
     }
 }

@@ -92,7 +92,7 @@ impl Drives {
     pub(crate) fn give(&mut self, core: u32, steps: Vec<Step>, out: &mut Reply) {
         let _inside: Option<Op> = None;
         match self.programs.push((core, steps)) {
-            Ok(()) => out.word("given"),
+            Ok(()) => out.put_word("given"),
             Err(_) => out.note_no_memory(),
         }
     }
@@ -110,9 +110,9 @@ impl Drives {
         let Some(run) = driven(self.alloc, system, programs, policy, limit) else {
             return Ok(());
         };
-        out.word(name_of(run.end));
-        out.number(run.events.len() as u64);
-        out.word("events");
+        out.put_word(name_of(run.end));
+        out.put_number(run.events.len() as u64);
+        out.put_word("events");
         self.events = run.events;
         self.at = 0;
         Ok(())
@@ -150,11 +150,11 @@ impl Drives {
             let Some(event) = self.events.get(self.at) else {
                 break;
             };
-            out.next_part();
+            out.begin_part();
             put_event(event, out);
             self.at = self.at.saturating_add(1);
         }
-        out.or("end");
+        out.put_word_if_empty("end");
     }
 
     /// The counts of the last drive, made once more on this machine, which has just opened; nothing if its own had had

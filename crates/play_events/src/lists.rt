@@ -18,9 +18,9 @@ enum Found {
 /// Writes the lines.
 fn put_found(found: Result<Found, AllocError>, out: &mut Reply) {
     match found {
-        Ok(Found::Same(lines)) => out.lines(lines.as_slice()),
-        Ok(Found::Differ) => out.word(DIFFER),
-        Ok(Found::NoMemory) => out.word(NO_MEMORY),
+        Ok(Found::Same(lines)) => out.put_lines(lines.as_slice()),
+        Ok(Found::Differ) => out.put_word(DIFFER),
+        Ok(Found::NoMemory) => out.put_word(NO_MEMORY),
         Err(_) => out.note_no_memory(),
     }
 }
@@ -98,8 +98,8 @@ pub(crate) fn put_entries(alloc: Global, system: &System, bank: u32, out: &mut R
 /// Writes the lines of a core's copies.
 pub(crate) fn put_copies(system: &System, core: u32, out: &mut Reply) {
     match system.copies(core) {
-        Ok(lines) => out.lines(&lines),
-        Err(_) => out.word(NO_MEMORY),
+        Ok(lines) => out.put_lines(&lines),
+        Err(_) => out.put_word(NO_MEMORY),
     }
 }
 
@@ -150,24 +150,24 @@ pub(crate) fn put_flight(
     let mut list = Vec::new(alloc);
     list.push(MsgNo(77))?;
     let Ok(messages) = system.in_flight() else {
-        out.word(NO_MEMORY);
+        out.put_word(NO_MEMORY);
         return Ok(());
     };
     let Ok(are) = are_filled(system, &mut list, &messages) else {
-        out.word(NO_MEMORY);
+        out.put_word(NO_MEMORY);
         return Ok(());
     };
     if are && are_one_by_one(system, &messages) {
         put_messages(&messages, out);
     } else {
-        out.word(DIFFER);
+        out.put_word(DIFFER);
     }
     Ok(())
 }
 
 fn put_messages(messages: &[MsgNo], out: &mut Reply) {
     for message in messages {
-        out.message(message.0);
+        out.put_message_number(message.0);
     }
-    out.or("none");
+    out.put_word_if_empty("none");
 }

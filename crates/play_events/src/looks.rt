@@ -5,8 +5,8 @@ use crate::histories::{put_arranged, put_check, put_stale};
 use crate::lists::{DIFFER, put_copies, put_entries, put_flight, put_free};
 use crate::states::put_state;
 use event_text::{
-    Reply, put_copy, put_counts, put_entry, put_message_or_none, put_open, put_ops, put_record_at,
-    put_values, yes_or_no,
+    Reply, put_copy, put_entry, put_line_words, put_message_counts, put_message_or_none,
+    put_open_op, put_ops, put_record_at, yes_or_no,
 };
 use interleaving_core::{LineNo, MsgNo, System};
 use physiological_order::WordAddr;
@@ -14,8 +14,8 @@ use std::alloc::Global;
 
 fn put_number(number: Option<u64>, out: &mut Reply) {
     match number {
-        Some(number) => out.number(number),
-        None => out.word("none"),
+        Some(number) => out.put_number(number),
+        None => out.put_word("none"),
     }
 }
 
@@ -35,18 +35,18 @@ pub(crate) fn put_open_of(system: &System, core: u32, out: &mut Reply) {
         has_core(system.trying_cores(), core),
     ) == wanted
     {
-        put_open(open, out);
+        put_open_op(open, out);
     } else {
-        out.word(DIFFER);
+        out.put_word(DIFFER);
     }
 }
 
 fn put_room(system: &System, number: MsgNo, out: &mut Reply) {
     let Some((bank, line)) = system.make_room(number) else {
-        return out.word("none");
+        return out.put_word("none");
     };
-    out.named("bank", u64::from(bank));
-    out.line(line);
+    out.put_named_number("bank", u64::from(bank));
+    out.put_line_address(line);
 }
 
 fn time_of(system: &System, core: u32) -> Option<u64> {
@@ -61,41 +61,41 @@ fn memory_time_of(system: &System, bank: u32) -> Option<u64> {
 pub(crate) fn put_copy_of(system: &System, core: u32, line: LineNo, out: &mut Reply) {
     match system.core(core) {
         Some(core) => put_copy(core.copy(line), out),
-        None => out.word("none"),
+        None => out.put_word("none"),
     }
 }
 
 fn put_entry_of(system: &System, bank: u32, line: LineNo, out: &mut Reply) {
     match system.bank(bank) {
         Some(bank) => put_entry(bank.entry(line), out),
-        None => out.word("none"),
+        None => out.put_word("none"),
     }
 }
 
 fn put_dram(system: &System, bank: u32, line: LineNo, out: &mut Reply) {
     match system.dram(bank) {
-        Some(dram) => put_values(&dram.load(line), out),
-        None => out.word("none"),
+        Some(dram) => put_line_words(&dram.load(line), out),
+        None => out.put_word("none"),
     }
 }
 
 /// Writes the value of the word at a byte address.
 fn put_value(system: &System, byte: u64, out: &mut Reply) {
     match WordAddr::new(byte) {
-        Some(word) => out.number(system.coherent(word)),
-        None => out.word("none"),
+        Some(word) => out.put_number(system.coherent(word)),
+        None => out.put_word("none"),
     }
 }
 
 fn put_shape(system: &System, out: &mut Reply) {
-    out.named("cores", u64::from(system.cores()));
-    out.named("banks", u64::from(system.banks()));
-    out.named("line-words", u64::from(system.line_words()));
+    out.put_named_number("cores", u64::from(system.cores()));
+    out.put_named_number("banks", u64::from(system.banks()));
+    out.put_named_number("line-words", u64::from(system.line_words()));
 }
 
 /// Writes whether the machine keeps lines in rising order.
 pub(crate) fn put_order(system: &System, out: &mut Reply) {
-    out.word(if system.keeps_order() {
+    out.put_word(if system.keeps_order() {
         "kept"
     } else {
         "not kept"
@@ -113,7 +113,7 @@ fn put_part(system: &System, look: &Look, out: &mut Reply) {
         What::Dram => put_dram(system, number, line, out),
         What::Message => put_message_or_none(system.look(MsgNo(look.at)), out),
         What::Open => put_open_of(system, number, out),
-        What::Victim => out.line_or_none(system.victim(number, line)),
+        What::Victim => out.put_line_or_none(system.victim(number, line)),
         What::Room => put_room(system, MsgNo(look.at), out),
         _ => put_ops(system.issued(number), out),
     }
@@ -122,14 +122,14 @@ fn put_part(system: &System, look: &Look, out: &mut Reply) {
 /// Writes what the machine as a whole has.
 fn put_whole(system: &System, look: &Look, out: &mut Reply) {
     match look.what {
-        What::Owners => out.number(u64::from(system.owners(LineNo(look.at)))),
+        What::Owners => out.put_number(u64::from(system.owners(LineNo(look.at)))),
         What::Word => put_value(system, look.at, out),
-        What::Sent => put_counts(&system.counts(), out),
-        What::Records => out.number(system.records().len() as u64),
+        What::Sent => put_message_counts(&system.counts(), out),
+        What::Records => out.put_number(system.records().len() as u64),
         What::Record => put_record_at(system.records(), look.at, out),
         What::Order => put_order(system, out),
         What::Shape => put_shape(system, out),
-        What::Stopped => out.word(yes_or_no(system.is_stopped())),
+        What::Stopped => out.put_word(yes_or_no(system.is_stopped())),
         What::State => put_state(system, look.number, out),
         _ => put_part(system, look, out),
     }

@@ -4,7 +4,7 @@ use crate::calls::Call;
 use crate::counts::Counted;
 use crate::drives::Drives;
 use crate::looks::{put_look, put_order};
-use event_text::{NO_MACHINE, NO_MEMORY, Opening, Reply, memory_of, put_answer};
+use event_text::{NO_MACHINE, NO_MEMORY, Opening, Reply, opening_memory_of, put_answer};
 use interleaving_core::{Answer, Config, Event, OpenError, System};
 use physiological_order::{Memory, Op, Record, WordAddr};
 use std::alloc::{AllocError, Global};
@@ -25,7 +25,7 @@ pub(crate) fn opened(
     config: Config,
     words: &[(WordAddr, u64)],
 ) -> Result<System, OpenError> {
-    match memory_of(alloc, words) {
+    match opening_memory_of(alloc, words) {
         Ok(memory) => System::new(alloc, config, memory),
         Err(_) => Err(OpenError::NoMemory),
     }
@@ -34,7 +34,7 @@ pub(crate) fn opened(
 /// Writes the answers to a list of events.
 pub(crate) fn put_answers(answers: &[Answer], out: &mut Reply) {
     for answer in answers {
-        out.next_part();
+        out.begin_part();
         put_answer(answer, out);
     }
 }
@@ -43,7 +43,7 @@ pub(crate) fn put_answers(answers: &[Answer], out: &mut Reply) {
 fn run(system: &mut System, events: &[Event], out: &mut Reply) {
     match system.run(events) {
         Ok(answers) => put_answers(answers.as_slice(), out),
-        Err(_) => out.word(NO_MEMORY),
+        Err(_) => out.put_word(NO_MEMORY),
     }
 }
 
@@ -58,7 +58,7 @@ fn keep(system: &mut System, is_kept: bool, out: &mut Reply) {
     if !is_kept {
         system.forget_order();
     } else if system.keep_order().is_err() {
-        return out.word(NO_MEMORY);
+        return out.put_word(NO_MEMORY);
     }
     put_order(system, out);
 }
@@ -90,10 +90,10 @@ impl Played {
         match opened(self.alloc, opening.config, self.words.as_slice()) {
             Ok(system) => {
                 self.system = Some(system);
-                out.word("opened");
+                out.put_word("opened");
             }
-            Err(OpenError::BadConfig) => out.word("refused BadConfig"),
-            Err(OpenError::NoMemory) => out.word(NO_MEMORY),
+            Err(OpenError::BadConfig) => out.put_word("refused BadConfig"),
+            Err(OpenError::NoMemory) => out.put_word(NO_MEMORY),
         }
     }
 
@@ -111,14 +111,14 @@ impl Played {
     }
 
     fn reopen_with(&mut self, words: Vec<(WordAddr, u64)>, out: &mut Reply) {
-        let Ok(memory) = memory_of(self.alloc, words.as_slice()) else {
-            return out.word(NO_MEMORY);
+        let Ok(memory) = opening_memory_of(self.alloc, words.as_slice()) else {
+            return out.put_word(NO_MEMORY);
         };
         self.words = words;
         match self.reopen(memory) {
-            Some(Ok(())) => out.word("reopened"),
-            Some(Err(_)) => out.word(NO_MEMORY),
-            None => out.word(NO_MACHINE),
+            Some(Ok(())) => out.put_word("reopened"),
+            Some(Err(_)) => out.put_word(NO_MEMORY),
+            None => out.put_word(NO_MACHINE),
         }
     }
 
@@ -135,12 +135,12 @@ impl Played {
 
     fn put_counts(&self, out: &mut Reply) {
         if self.system.is_none() {
-            return out.word(NO_MACHINE);
+            return out.put_word(NO_MACHINE);
         }
         match self.counts() {
             Ok(Some(counted)) => counted.put(out),
-            Ok(None) => out.word("none"),
-            Err(_) => out.word(NO_MEMORY),
+            Ok(None) => out.put_word("none"),
+            Err(_) => out.put_word(NO_MEMORY),
         }
     }
 
@@ -153,7 +153,7 @@ impl Played {
             call => call,
         };
         let Some(system) = &mut self.system else {
-            return out.word(NO_MACHINE);
+            return out.put_word(NO_MACHINE);
         };
         match call {
             Call::Event(event) => {

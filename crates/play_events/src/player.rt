@@ -51,7 +51,7 @@ fn play_line<W: Write + Drop>(
     out: &mut W,
 ) -> io::Result<()> {
     play_turn(played, turn, reply)?;
-    if page.how.again && reply.told()? == NO_MEMORY {
+    if page.how.again && reply.whole_text()? == NO_MEMORY {
         if turn.wanted.is_none() {
             page.report_unasked(turn, NO_MEMORY, out)?;
         }
@@ -74,17 +74,17 @@ fn answer_line<D: Dialog>(
             played.play(call, reply);
             dialog.take_answer(reply)
         }
-        Err(cause) => dialog.refuse(cause),
+        Err(cause) => dialog.refuse_line(cause),
     }
 }
 
 impl Player for EventPlayer {
-    fn read(&self, alloc: Global, turn: &Turn<'_>) -> Result<(), Cause> {
+    fn check_line(&self, alloc: Global, turn: &Turn<'_>) -> Result<(), Cause> {
         let _call = read_call(alloc, turn, 1)?;
         Ok(())
     }
 
-    fn play<W: Write + Drop>(
+    fn play_readable_example<W: Write + Drop>(
         &self,
         alloc: Global,
         example: &Example<'_>,
@@ -106,11 +106,11 @@ impl Player for EventPlayer {
         Ok(())
     }
 
-    fn answer<D: Dialog>(&self, alloc: Global, dialog: &mut D) -> io::Result<()> {
+    fn answer_lines<D: Dialog>(&self, alloc: Global, dialog: &mut D) -> io::Result<()> {
         let mut played = Played::new(alloc);
         let mut reply = Reply::new(alloc);
         for _ in 0..u64::MAX {
-            let Some(turn) = dialog.turn() else {
+            let Some(turn) = dialog.current_turn() else {
                 break;
             };
             let call = read_call(alloc, &turn, played.line_words());
@@ -119,7 +119,7 @@ impl Player for EventPlayer {
         Ok(())
     }
 
-    fn has_ways(&self) -> bool {
+    fn has_other_ways(&self) -> bool {
         true
     }
 }

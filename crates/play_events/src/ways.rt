@@ -4,7 +4,7 @@
 use crate::calls::Call;
 use crate::machines::{Played, opened, put_answers};
 use crate::player::{call_of, next, play_turn};
-use event_text::{Example, Page, Reply, memory_of};
+use event_text::{Example, Page, Reply, opening_memory_of};
 use interleaving_core::{Answer, Config, Event, System};
 use physiological_order::{Op, WordAddr};
 use std::alloc::{AllocError, Global};
@@ -88,7 +88,7 @@ fn other_words(alloc: Global) -> io::Result<Vec<(WordAddr, u64)>> {
 
 /// Opens the machine again with these words.
 fn reopen(played: &mut Played, words: &[(WordAddr, u64)]) -> io::Result<()> {
-    let memory = memory_of(played.alloc, words)?;
+    let memory = opening_memory_of(played.alloc, words)?;
     if let Some(reopened) = played.reopen(memory) {
         reopened?;
     }
@@ -97,11 +97,11 @@ fn reopen(played: &mut Played, words: &[(WordAddr, u64)]) -> io::Result<()> {
 
 /// Writes what must be so of a machine that was opened again with the other memory.
 fn put_opened(system: &System, out: &mut Reply) {
-    out.named("records", system.records().len() as u64);
-    out.named("messages", u64::from(system.messages()));
-    out.word("words");
+    out.put_named_number("records", system.records().len() as u64);
+    out.put_named_number("messages", u64::from(system.messages()));
+    out.put_word("words");
     for (word, _) in OTHER_WORDS {
-        out.number(system.coherent(WordAddr::at(word)));
+        out.put_number(system.coherent(WordAddr::at(word)));
     }
 }
 
@@ -137,9 +137,9 @@ fn play_again<W: Write + Drop>(
         let Some(turn) = next(&mut cursor)? else {
             break;
         };
-        if turn.name() != "machine" {
+        if turn.call_name() != "machine" {
             play_turn(played, &turn, &mut reply)?;
-            page.compare(at, &reply, "opened again", out)?;
+            page.compare_answer(at, &reply, "opened again", out)?;
         }
     }
     Ok(())
@@ -154,8 +154,8 @@ fn compare_list<W: Write + Drop>(
     out: &mut W,
 ) -> io::Result<()> {
     if answers.len() != listed.events.len() {
-        reply.word("another number of answers");
-        return page.compare(0, reply, "as one list", out);
+        reply.put_word("another number of answers");
+        return page.compare_answer(0, reply, "as one list", out);
     }
     let mut from = 0;
     for (at, to) in &listed.lines {
@@ -165,7 +165,7 @@ fn compare_list<W: Write + Drop>(
         from = *to;
         reply.clear();
         put_answers(part, reply);
-        page.compare(*at, reply, "as one list", out)?;
+        page.compare_answer(*at, reply, "as one list", out)?;
     }
     Ok(())
 }

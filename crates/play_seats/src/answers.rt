@@ -73,14 +73,14 @@ pub(crate) fn put_says(says: &Says, out: &mut Reply) {
     match says {
         Says::Answers(answer) => put_answer(answer, out),
         Says::Turns(turn) => {
-            out.number(u64::from(turn.put));
-            out.word("put,");
-            out.word(name_of(&turn.served));
+            out.put_number(u64::from(turn.put));
+            out.put_word("put,");
+            out.put_word(name_of(&turn.served));
         }
-        Says::Puts(true) => out.word("put"),
-        Says::Takes(Take::Taken) => out.word("taken"),
-        Says::Takes(Take::HandFull) => out.word("hand full"),
-        Says::Puts(false) | Says::Takes(Take::Nothing) | Says::Nothing => out.word("nothing"),
-        Says::NoSeat => out.word(NO_SEAT),
+        Says::Puts(true) => out.put_word("put"),
+        Says::Takes(Take::Taken) => out.put_word("taken"),
+        Says::Takes(Take::HandFull) => out.put_word("hand full"),
+        Says::Puts(false) | Says::Takes(Take::Nothing) | Says::Nothing => out.put_word("nothing"),
+        Says::NoSeat => out.put_word(NO_SEAT),
     }
 }

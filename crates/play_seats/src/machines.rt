@@ -7,7 +7,7 @@ use crate::calls::Call;
 use crate::play::Play;
 use crate::runs::put_asked;
 use crate::seats::put_called;
-use event_text::{Dialog, NO_MEMORY, Opening, memory_of};
+use event_text::{Dialog, NO_MEMORY, Opening, opening_memory_of};
 use machine_table::{Config, OpenError};
 use mailboxes::{BankSeat, CoreSeat, Machine, Run, open};
 use physiological_order::Memory;
@@ -89,7 +89,7 @@ fn play_closed<D: Dialog>(play: &mut Play<'_, D>, run: &Run) -> io::Result<()>
 
 /// Plays a machine: the line that opens it, and those after it, up to one that opens anew.
 pub(crate) fn play_machine<D: Dialog>(play: &mut Play<'_, D>, opening: &Opening) -> io::Result<()> {
-    let Ok(memory) = memory_of(play.alloc, opening.words.as_slice()) else {
+    let Ok(memory) = opening_memory_of(play.alloc, opening.words.as_slice()) else {
         return play.say(NO_MEMORY);
     };
     let (machine, mut cores, mut banks) = match opened(play.alloc, &opening.config, memory) {

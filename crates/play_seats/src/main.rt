@@ -43,26 +43,26 @@ fn play_all<D: Dialog>(play: &mut Play<'_, D>) -> io::Result<()> {
 }
 
 impl Player for SeatPlayer {
-    fn read(&self, alloc: Global, turn: &Turn<'_>) -> Result<(), Cause> {
-        let _call = call_of(alloc, &mut turn.words(1))?;
+    fn check_line(&self, alloc: Global, turn: &Turn<'_>) -> Result<(), Cause> {
+        let _call = call_of(alloc, &mut turn.call_words(1))?;
         Ok(())
     }
 
-    fn play<W: Write + Drop>(
+    fn play_readable_example<W: Write + Drop>(
         &self,
         alloc: Global,
         example: &Example<'_>,
         page: &mut Page<'_>,
         out: &mut W,
     ) -> io::Result<()> {
-        self.answer(alloc, &mut OfExample::new(example, page, out))
+        self.answer_lines(alloc, &mut OfExample::new(example, page, out))
     }
 
-    fn answer<D: Dialog>(&self, alloc: Global, dialog: &mut D) -> io::Result<()> {
+    fn answer_lines<D: Dialog>(&self, alloc: Global, dialog: &mut D) -> io::Result<()> {
         play_all(&mut Play::new(alloc, dialog))
     }
 
-    fn has_ways(&self) -> bool {
+    fn has_other_ways(&self) -> bool {
         false
     }
 }

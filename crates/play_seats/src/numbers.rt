@@ -17,9 +17,9 @@ const NO_DRAWER: &str = "no drawer";
 /// Drawn numbers, or `none`.
 fn put_list(drawn: &[u64], out: &mut Reply) {
     for number in drawn {
-        out.number(*number);
+        out.put_number(*number);
     }
-    out.or("none");
+    out.put_word_if_empty("none");
 }
 
 /// The drawer of a number draws.
@@ -29,12 +29,12 @@ fn put_draw(numbers: &Numbers, drawers: &mut Vec<Drawer>, number: u32, out: &mut
 {
     let at = number as usize;
     if at >= drawers.len() {
-        return out.word(NO_DRAWER);
+        return out.put_word(NO_DRAWER);
     }
     match drawers[at].draw(numbers) {
-        Ok(drawn) => out.number(drawn),
-        Err(DrawError::NoMemory) => out.word(NO_MEMORY),
-        Err(DrawError::TooMany) => out.word("refused TooMany"),
+        Ok(drawn) => out.put_number(drawn),
+        Err(DrawError::NoMemory) => out.put_word(NO_MEMORY),
+        Err(DrawError::TooMany) => out.put_word("refused TooMany"),
     }
 }
 
@@ -42,7 +42,7 @@ fn put_draw(numbers: &Numbers, drawers: &mut Vec<Drawer>, number: u32, out: &mut
 fn put_drawn(drawers: &[Drawer], number: u32, out: &mut Reply) {
     match drawers.get(number as usize) {
         Some(drawer) => put_list(drawer.drawn.as_slice(), out),
-        None => out.word(NO_DRAWER),
+        None => out.put_word(NO_DRAWER),
     }
 }
 
@@ -50,7 +50,7 @@ fn put_drawn(drawers: &[Drawer], number: u32, out: &mut Reply) {
 fn put_left(lists: &[Vec<u64>], number: u32, out: &mut Reply) {
     match lists.get(number as usize) {
         Some(list) => put_list(list.as_slice(), out),
-        None => out.word(NO_DRAWER),
+        None => out.put_word(NO_DRAWER),
     }
 }
 
@@ -68,7 +68,7 @@ fn play_open<D: Dialog>(
             None | Some(Call::Seats(_) | Call::Numbers(_) | Call::Close) => return Ok(()),
             Some(Call::Draw(drawer)) => put_draw(numbers, drawers, drawer, &mut play.reply),
             Some(Call::Drawn(drawer)) => put_drawn(drawers, drawer, &mut play.reply),
-            Some(_) => play.reply.word(NO_MACHINE),
+            Some(_) => play.reply.put_word(NO_MACHINE),
         }
         play.take_answer()?;
     }
@@ -81,7 +81,7 @@ fn play_closed<D: Dialog>(play: &mut Play<'_, D>, lists: &[Vec<u64>]) -> io::Res
         match play.call()? {
             None | Some(Call::Seats(_) | Call::Numbers(_)) => return Ok(()),
             Some(Call::Drawn(drawer)) => put_left(lists, drawer, &mut play.reply),
-            Some(_) => play.reply.word(NO_MACHINE),
+            Some(_) => play.reply.put_word(NO_MACHINE),
         }
         play.take_answer()?;
     }

@@ -46,7 +46,7 @@ impl<'t, 'p, 'b, 'o, W: Write + Drop> OfExample<'t, 'p, 'b, 'o, W> {
 }
 
 impl<W: Write + Drop> Dialog for OfExample<'_, '_, '_, '_, W> {
-    fn turn(&self) -> Option<Turn<'_>> {
+    fn current_turn(&self) -> Option<Turn<'_>> {
         self.now
     }
 
@@ -56,7 +56,7 @@ impl<W: Write + Drop> Dialog for OfExample<'_, '_, '_, '_, W> {
             return Ok(());
         };
         self.page.take_answer(&turn, reply, self.out)?;
-        self.is_again = !self.is_again && self.page.how.again && reply.told()? == NO_MEMORY;
+        self.is_again = !self.is_again && self.page.how.again && reply.whole_text()? == NO_MEMORY;
         if !self.is_again {
             self.now = next(&mut self.cursor);
         }
@@ -64,7 +64,7 @@ impl<W: Write + Drop> Dialog for OfExample<'_, '_, '_, '_, W> {
     }
 
     /// The line was read before, so only an allocation can have failed.
-    fn refuse(&mut self, _cause: Cause) -> io::Result<()> {
+    fn refuse_line(&mut self, _cause: Cause) -> io::Result<()> {
         Err(io::Error::from(AllocError))
     }
 }
@@ -91,12 +91,12 @@ impl<'d, D: Dialog> Play<'d, D> {
     /// The call that is played now, of the first line from here on that can be read; none after the last line.
     pub fn call(&mut self) -> io::Result<Option<Call>> {
         for _ in 0..u64::MAX {
-            let Some(turn) = self.dialog.turn() else {
+            let Some(turn) = self.dialog.current_turn() else {
                 break;
             };
-            match call_of(self.alloc, &mut turn.words(self.reply.line_words)) {
+            match call_of(self.alloc, &mut turn.call_words(self.reply.line_words)) {
                 Ok(call) => return Ok(Some(call)),
-                Err(cause) => self.dialog.refuse(cause)?,
+                Err(cause) => self.dialog.refuse_line(cause)?,
             }
         }
         Ok(None)
@@ -111,7 +111,7 @@ impl<'d, D: Dialog> Play<'d, D> {
 
     /// Takes this answer, and goes on.
     pub fn say(&mut self, answer: &str) -> io::Result<()> {
-        self.reply.word(answer);
+        self.reply.put_word(answer);
         self.take_answer()
     }
 }

@@ -22,34 +22,34 @@ fn mail_look(seat: Seat, look: MailLook) -> Call {
 }
 
 fn issue(words: &mut Words<'_>) -> Result<Call, Cause> {
-    let core = words.small()?;
-    Ok(Call::Core(core, OfCore::Issue(words.operation()?)))
+    let core = words.next_small_number()?;
+    Ok(Call::Core(core, OfCore::Issue(words.next_operation()?)))
 }
 
 fn evict(words: &mut Words<'_>) -> Result<Call, Cause> {
-    let seat = words.seat()?;
-    Ok(of_seat(seat, OfSeat::Evict(words.line()?)))
+    let seat = words.next_seat()?;
+    Ok(of_seat(seat, OfSeat::Evict(words.next_line_number()?)))
 }
 
 /// A call that changes a seat, or looks something up.
 fn act(name: &str, words: &mut Words<'_>) -> Result<Call, Cause> {
     match name {
         "issue" => issue(words),
-        "attempt" => Ok(Call::Core(words.small()?, OfCore::Attempt)),
-        "advance" => Ok(Call::Core(words.small()?, OfCore::Advance)),
+        "attempt" => Ok(Call::Core(words.next_small_number()?, OfCore::Attempt)),
+        "advance" => Ok(Call::Core(words.next_small_number()?, OfCore::Advance)),
         "evict" => evict(words),
-        "put" => Ok(of_seat(words.seat()?, OfSeat::Put)),
-        "take" => Ok(of_seat(words.seat()?, OfSeat::Take)),
-        "serve" => Ok(of_seat(words.seat()?, OfSeat::Serve)),
-        "turn" => Ok(of_seat(words.seat()?, OfSeat::Turn)),
+        "put" => Ok(of_seat(words.next_seat()?, OfSeat::Put)),
+        "take" => Ok(of_seat(words.next_seat()?, OfSeat::Take)),
+        "serve" => Ok(of_seat(words.next_seat()?, OfSeat::Serve)),
+        "turn" => Ok(of_seat(words.next_seat()?, OfSeat::Turn)),
         _ => part_look(name, words),
     }
 }
 
 /// A look at a line by a core.
 fn at_core(name: &str, words: &mut Words<'_>) -> Result<Call, Cause> {
-    let core = words.small()?;
-    let line = words.line()?;
+    let core = words.next_small_number()?;
+    let line = words.next_line_number()?;
     let look = match name {
         "victim" => CoreLook::Victim(line),
         _ => CoreLook::Copy(line),
@@ -59,8 +59,8 @@ fn at_core(name: &str, words: &mut Words<'_>) -> Result<Call, Cause> {
 
 /// A look at a line by a bank.
 fn at_bank(name: &str, words: &mut Words<'_>) -> Result<Call, Cause> {
-    let bank = words.small()?;
-    let line = words.line()?;
+    let bank = words.next_small_number()?;
+    let line = words.next_line_number()?;
     let look = match name {
         "entry" => BankLook::Entry(line),
         _ => BankLook::Dram(line),
@@ -69,7 +69,7 @@ fn at_bank(name: &str, words: &mut Words<'_>) -> Result<Call, Cause> {
 }
 
 fn room(words: &mut Words<'_>) -> Result<Call, Cause> {
-    match words.seat()? {
+    match words.next_seat()? {
         Seat::Bank(bank) => Ok(Call::BankLook(bank, BankLook::Room)),
         Seat::Core(_) => Err(Cause::Bank),
     }
@@ -78,11 +78,11 @@ fn room(words: &mut Words<'_>) -> Result<Call, Cause> {
 /// A look-up of a core or a bank, or of others.
 fn part_look(name: &str, words: &mut Words<'_>) -> Result<Call, Cause> {
     match name {
-        "open" => Ok(Call::CoreLook(words.small()?, CoreLook::Open)),
-        "time" => Ok(Call::CoreLook(words.small()?, CoreLook::Time)),
-        "issued" => Ok(Call::CoreLook(words.small()?, CoreLook::Issued)),
+        "open" => Ok(Call::CoreLook(words.next_small_number()?, CoreLook::Open)),
+        "time" => Ok(Call::CoreLook(words.next_small_number()?, CoreLook::Time)),
+        "issued" => Ok(Call::CoreLook(words.next_small_number()?, CoreLook::Issued)),
         "victim" | "copy" => at_core(name, words),
-        "memory-time" => Ok(Call::BankLook(words.small()?, BankLook::Time)),
+        "memory-time" => Ok(Call::BankLook(words.next_small_number()?, BankLook::Time)),
         "entry" | "dram" => at_bank(name, words),
         "room" => room(words),
         _ => seat_look(name, words),
@@ -90,13 +90,13 @@ fn part_look(name: &str, words: &mut Words<'_>) -> Result<Call, Cause> {
 }
 
 fn held(words: &mut Words<'_>) -> Result<Call, Cause> {
-    let seat = words.seat()?;
-    Ok(mail_look(seat, MailLook::Held(words.small()?)))
+    let seat = words.next_seat()?;
+    Ok(mail_look(seat, MailLook::Held(words.next_small_number()?)))
 }
 
 fn state(words: &mut Words<'_>) -> Result<Call, Cause> {
-    let seat = words.seat()?;
-    let count = words.small()?;
+    let seat = words.next_seat()?;
+    let count = words.next_small_number()?;
     Ok(match seat {
         Seat::Core(core) => Call::CoreLook(core, CoreLook::State(count)),
         Seat::Bank(bank) => Call::BankLook(bank, BankLook::State(count)),
@@ -106,12 +106,12 @@ fn state(words: &mut Words<'_>) -> Result<Call, Cause> {
 /// A look-up of a seat's messages, of all of a seat, or of a closed run.
 fn seat_look(name: &str, words: &mut Words<'_>) -> Result<Call, Cause> {
     match name {
-        "hand" => Ok(mail_look(words.seat()?, MailLook::Hand)),
+        "hand" => Ok(mail_look(words.next_seat()?, MailLook::Hand)),
         "held" => held(words),
-        "places" => Ok(mail_look(words.seat()?, MailLook::Places)),
-        "outbox" => Ok(mail_look(words.seat()?, MailLook::Outbox)),
-        "cursor" => Ok(mail_look(words.seat()?, MailLook::Cursor)),
-        "stopped" => Ok(mail_look(words.seat()?, MailLook::Stopped)),
+        "places" => Ok(mail_look(words.next_seat()?, MailLook::Places)),
+        "outbox" => Ok(mail_look(words.next_seat()?, MailLook::Outbox)),
+        "cursor" => Ok(mail_look(words.next_seat()?, MailLook::Cursor)),
+        "stopped" => Ok(mail_look(words.next_seat()?, MailLook::Stopped)),
         "state" => state(words),
         "records" => records(words),
         "sent" => sent(words),
@@ -122,13 +122,13 @@ fn seat_look(name: &str, words: &mut Words<'_>) -> Result<Call, Cause> {
 /// A look-up of a closed run alone.
 fn run_look(name: &str, words: &mut Words<'_>) -> Result<RunLook, Cause> {
     match name {
-        "record" => Ok(RunLook::Record(words.number()?)),
+        "record" => Ok(RunLook::Record(words.next_number()?)),
         "stale" => Ok(RunLook::Stale),
         "check" => Ok(RunLook::Check),
         "arranged" => Ok(RunLook::Arranged),
-        "word" => Ok(RunLook::Word(words.address()?)),
-        "owners" => Ok(RunLook::Owners(words.line()?)),
-        "slot" => Ok(RunLook::Slot(words.number()?)),
+        "word" => Ok(RunLook::Word(words.next_address()?)),
+        "owners" => Ok(RunLook::Owners(words.next_line_number()?)),
+        "slot" => Ok(RunLook::Slot(words.next_number()?)),
         "slots" => Ok(RunLook::Slots),
         _ => Err(Cause::Call),
     }
@@ -139,7 +139,7 @@ fn records(words: &mut Words<'_>) -> Result<Call, Cause> {
     let Some(word) = words.next_word() else {
         return Ok(Call::RunLook(RunLook::Records));
     };
-    let core = words.small_in(word)?;
+    let core = words.small_number_of_word(word)?;
     Ok(Call::CoreLook(core, CoreLook::Records))
 }
 
@@ -147,12 +147,12 @@ fn records(words: &mut Words<'_>) -> Result<Call, Cause> {
 fn sent(words: &mut Words<'_>) -> Result<Call, Cause> {
     match words.next_word() {
         None => Ok(Call::RunLook(RunLook::Sent)),
-        Some(kind) => Ok(mail_look(words.seat_of(kind)?, MailLook::Sent)),
+        Some(kind) => Ok(mail_look(words.seat_from_word(kind)?, MailLook::Sent)),
     }
 }
 
 fn numbers(words: &mut Words<'_>) -> Result<Call, Cause> {
-    let drawers = words.small()?;
+    let drawers = words.next_small_number()?;
     if drawers == 0 || drawers > MOST {
         return Err(Cause::Drawers);
     }
@@ -161,14 +161,14 @@ fn numbers(words: &mut Words<'_>) -> Result<Call, Cause> {
 
 /// What words ask for.
 pub(crate) fn call_of(alloc: Global, words: &mut Words<'_>) -> Result<Call, Cause> {
-    let call = match words.wanted(Cause::Call)? {
+    let call = match words.required_word(Cause::Call)? {
         "seats" => Call::Seats(read_opening(alloc, words)?),
         "numbers" => numbers(words)?,
-        "draw" => Call::Draw(words.small()?),
-        "drawn" => Call::Drawn(words.small()?),
+        "draw" => Call::Draw(words.next_small_number()?),
+        "drawn" => Call::Drawn(words.next_small_number()?),
         "close" => Call::Close,
         name => act(name, words)?,
     };
-    words.end()?;
+    words.expect_end()?;
     Ok(call)
 }

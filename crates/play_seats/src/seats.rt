@@ -5,7 +5,7 @@ use crate::answers::{NO_SEAT, Says, done, evicted, put_says, served, turned};
 use crate::calls::{BankLook, Call, CoreLook, OfCore, OfSeat};
 use crate::looks::{look_at_bank, look_at_core};
 use crate::views::{Mail, open_bank, open_core};
-use event_text::{NO_MACHINE, Reply, put_open};
+use event_text::{NO_MACHINE, Reply, put_open_op};
 use machine_table::Answer;
 use mailboxes::{BankSeat, CoreSeat, Machine};
 
@@ -76,8 +76,8 @@ fn bank_called(machine: &Machine, banks: &mut Vec<BankSeat>, at: usize, call: &O
 fn look_at_core_seat(seat: &CoreSeat, number: u32, look: &CoreLook, out: &mut Reply) {
     let _inside: Option<Mail<'_>> = None;
     match look {
-        CoreLook::Open => put_open(seat.open_op(), out),
-        CoreLook::Victim(line) => out.line_or_none(seat.victim(*line)),
+        CoreLook::Open => put_open_op(seat.open_op(), out),
+        CoreLook::Victim(line) => out.put_line_or_none(seat.victim(*line)),
         look => look_at_core(number, &open_core(seat), look, out),
     }
 }
@@ -86,7 +86,7 @@ fn look_at_core_seat(seat: &CoreSeat, number: u32, look: &CoreLook, out: &mut Re
 fn look_at_open_core(cores: &Vec<CoreSeat>, number: u32, look: &CoreLook, out: &mut Reply) {
     let at = number as usize;
     if at >= cores.len() {
-        return out.word(NO_SEAT);
+        return out.put_word(NO_SEAT);
     }
     look_at_core_seat(&cores[at], number, look, out)
 }
@@ -101,7 +101,7 @@ fn look_at_bank_seat(seat: &BankSeat, number: u32, look: &BankLook, out: &mut Re
 fn look_at_open_bank(banks: &Vec<BankSeat>, number: u32, look: &BankLook, out: &mut Reply) {
     let at = number as usize;
     if at >= banks.len() {
-        return out.word(NO_SEAT);
+        return out.put_word(NO_SEAT);
     }
     look_at_bank_seat(&banks[at], number, look, out)
 }
@@ -128,6 +128,6 @@ pub(crate) fn put_called(
         }
         Call::CoreLook(number, look) => look_at_open_core(cores, *number, look, out),
         Call::BankLook(number, look) => look_at_open_bank(banks, *number, look, out),
-        _ => out.word(NO_MACHINE),
+        _ => out.put_word(NO_MACHINE),
     }
 }

@@ -3,7 +3,7 @@
 use crate::calls::MailLook;
 use crate::looks::look_at_mail;
 use crate::views::{BankView, CoreView, Mail};
-use event_text::{Reply, put_copy, put_entry, put_message, put_open, put_values};
+use event_text::{Reply, put_copy, put_entry, put_line_words, put_message, put_open_op};
 use network::{LineNo, Words};
 
 /// How many lines this many words have.
@@ -13,8 +13,8 @@ fn line_count(words: u32, out: &Reply) -> u64 {
 
 /// The name of what follows, and its line.
 fn put_part(name: &str, line: LineNo, out: &mut Reply) {
-    out.add(name);
-    out.line(line);
+    out.put_text(name);
+    out.put_line_address(line);
 }
 
 fn put_copies(view: &CoreView<'_>, out: &mut Reply) {
@@ -34,7 +34,7 @@ fn put_victims(view: &CoreView<'_>, words: u32, out: &mut Reply) {
     for line in 0..line_count(words, out) {
         if let Some(victim) = view.core.victim(LineNo(line)) {
             put_part("; victim", LineNo(line), out);
-            out.line(victim);
+            out.put_line_address(victim);
         }
     }
 }
@@ -55,14 +55,14 @@ fn put_drams(view: &BankView<'_>, words: u32, out: &mut Reply) {
         let values = view.dram.load(LineNo(line));
         if values != Words::zeros() {
             put_part("; dram", LineNo(line), out);
-            put_values(&values, out);
+            put_line_words(&values, out);
         }
     }
 }
 
 /// The answer of a look-up, after its name.
 fn put_look(name: &str, mail: &Mail<'_>, look: MailLook, out: &mut Reply) {
-    out.add(name);
+    out.put_text(name);
     look_at_mail(mail, &look, out);
 }
 
@@ -74,7 +74,7 @@ fn put_messages(mail: &Mail<'_>, out: &mut Reply) {
         let Some(message) = mail.inbox.held(at) else {
             break;
         };
-        out.add("; held");
+        out.put_text("; held");
         put_message(message, out);
     }
     put_look("; outbox", mail, MailLook::Outbox, out);
@@ -87,11 +87,11 @@ fn put_messages(mail: &Mail<'_>, out: &mut Reply) {
 
 /// All of the seat of the core of this number.
 pub(crate) fn put_core(number: u32, view: &CoreView<'_>, words: u32, out: &mut Reply) {
-    out.named("core", u64::from(number));
-    out.named("time", view.core.pts());
-    out.named("issued", u64::from(view.core.issued()));
-    out.word("open");
-    put_open(view.core.open_op(), out);
+    out.put_named_number("core", u64::from(number));
+    out.put_named_number("time", view.core.pts());
+    out.put_named_number("issued", u64::from(view.core.issued()));
+    out.put_word("open");
+    put_open_op(view.core.open_op(), out);
     put_copies(view, out);
     put_victims(view, words, out);
     put_messages(&view.mail, out);
@@ -99,13 +99,13 @@ pub(crate) fn put_core(number: u32, view: &CoreView<'_>, words: u32, out: &mut R
 
 /// All of the seat of the bank of this number.
 pub(crate) fn put_bank(number: u32, view: &BankView<'_>, words: u32, out: &mut Reply) {
-    out.named("bank", u64::from(number));
-    out.named("time", view.bank.memory_time());
+    out.put_named_number("bank", u64::from(number));
+    out.put_named_number("time", view.bank.memory_time());
     put_entries(view, words, out);
     put_drams(view, words, out);
     put_messages(&view.mail, out);
     if let Some(open) = view.mail.open {
-        out.add("; room");
-        out.line_or_none(open.room);
+        out.put_text("; room");
+        out.put_line_or_none(open.room);
     }
 }

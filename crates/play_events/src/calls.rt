@@ -98,7 +98,7 @@ const LOOKS: &[(&str, (What, bool, Part))] = &[
 ];
 
 /// The event that a name and the next words call for.
-fn event_of(name: &str, words: &mut Words<'_>) -> Result<Event, Cause> {
+fn read_event(name: &str, words: &mut Words<'_>) -> Result<Event, Cause> {
     match name {
         "issue" => {
             let core = words.next_small_number()?;
@@ -116,25 +116,25 @@ fn event_of(name: &str, words: &mut Words<'_>) -> Result<Event, Cause> {
 }
 
 /// The event that a text calls for, and no more.
-fn event(mut words: Words<'_>) -> Result<Event, Cause> {
+fn read_listed_event(mut words: Words<'_>) -> Result<Event, Cause> {
     let name = words.required_word(Cause::Event)?;
-    let event = event_of(name, &mut words)?;
+    let event = read_event(name, &mut words)?;
     words.expect_end()?;
     Ok(event)
 }
 
 /// The events of a list.
-fn events(alloc: Global, turn: &Turn<'_>, line_words: u32) -> Result<Vec<Event>, Cause> {
+fn read_event_list(alloc: Global, turn: &Turn<'_>, line_words: u32) -> Result<Vec<Event>, Cause> {
     let _inside: Option<Op> = None;
     let mut events = Vec::new(alloc);
     for part in turn.call_parts() {
-        events.push(event(Words::new(part, turn.turn, line_words))?)?;
+        events.push(read_listed_event(Words::new(part, turn.turn, line_words))?)?;
     }
     Ok(events)
 }
 
 /// A step that a text names, and how often it is repeated.
-fn steps_of(mut words: Words<'_>) -> Result<(u32, Step), Cause> {
+fn read_repeated_step(mut words: Words<'_>) -> Result<(u32, Step), Cause> {
     let word = words.required_word(Cause::Operation)?;
     let (times, word) = match words.number_of_word(word) {
         Ok(_) => (
@@ -153,7 +153,7 @@ fn steps_of(mut words: Words<'_>) -> Result<(u32, Step), Cause> {
 }
 
 /// Adds a step this many times.
-fn add_times(steps: &mut Vec<Step>, times: u32, step: &Step) -> Result<(), Cause> {
+fn push_step_times(steps: &mut Vec<Step>, times: u32, step: &Step) -> Result<(), Cause> {
     let _inside: Option<Op> = None;
     for _ in 0..times {
         steps.push(*step)?;
@@ -162,14 +162,14 @@ fn add_times(steps: &mut Vec<Step>, times: u32, step: &Step) -> Result<(), Cause
 }
 
 /// Adds the steps that a text names.
-fn add_steps(steps: &mut Vec<Step>, words: Words<'_>) -> Result<(), Cause> {
+fn push_read_steps(steps: &mut Vec<Step>, words: Words<'_>) -> Result<(), Cause> {
     let _inside: Option<Op> = None;
-    let (times, step) = steps_of(words)?;
-    add_times(steps, times, &step)
+    let (times, step) = read_repeated_step(words)?;
+    push_step_times(steps, times, &step)
 }
 
 /// A core and its steps; a program without words has none.
-fn program(alloc: Global, turn: &Turn<'_>) -> Result<Call, Cause> {
+fn read_program(alloc: Global, turn: &Turn<'_>) -> Result<Call, Cause> {
     let mut steps = Vec::new(alloc);
     let mut parts = turn.call_parts();
     let first = parts.next().unwrap_or("").trim();
@@ -178,16 +178,16 @@ fn program(alloc: Global, turn: &Turn<'_>) -> Result<Call, Cause> {
     let core = words.small_number_of_word(name)?;
     let rest = text_after_prefix(first, name);
     if !rest.is_empty() {
-        add_steps(&mut steps, Words::new(rest, turn.turn, 1))?;
+        push_read_steps(&mut steps, Words::new(rest, turn.turn, 1))?;
     }
     for part in parts {
-        add_steps(&mut steps, Words::new(part, turn.turn, 1))?;
+        push_read_steps(&mut steps, Words::new(part, turn.turn, 1))?;
     }
     Ok(Call::Program(core, steps))
 }
 
 /// The look-up that a name and the next words ask for.
-fn read_look(name: &str, words: &mut Words<'_>) -> Result<Look, Cause> {
+fn read_look_up(name: &str, words: &mut Words<'_>) -> Result<Look, Cause> {
     if name == "word" {
         let at = words.next_address()?.byte();
         return Ok(Look {
@@ -207,12 +207,12 @@ fn read_look(name: &str, words: &mut Words<'_>) -> Result<Look, Cause> {
 }
 
 /// What a name and the next words ask for.
-fn call_of(alloc: Global, name: &str, words: &mut Words<'_>) -> Result<Call, Cause> {
+fn read_named_call(alloc: Global, name: &str, words: &mut Words<'_>) -> Result<Call, Cause> {
     match name {
         "machine" => Ok(Call::Machine(read_opening(alloc, words)?)),
         "reopen" => Ok(Call::Reopen(read_reopening_words(alloc, words)?)),
         "issue" | "attempt" | "deliver" | "evict" | "advance" => {
-            Ok(Call::Event(event_of(name, words)?))
+            Ok(Call::Event(read_event(name, words)?))
         }
         "rounds" => Ok(Call::Drive(Policy::Rounds, words.next_small_number()?)),
         "fair-rounds" => Ok(Call::Drive(Policy::FairRounds, words.next_small_number()?)),
@@ -222,13 +222,13 @@ fn call_of(alloc: Global, name: &str, words: &mut Words<'_>) -> Result<Call, Cau
         }
         "made" => Ok(Call::Made(words.next_small_number()?)),
         "counts" => Ok(Call::Counts),
-        "order" => order(words),
-        _ => Ok(Call::Look(read_look(name, words)?)),
+        "order" => read_order_call(words),
+        _ => Ok(Call::Look(read_look_up(name, words)?)),
     }
 }
 
 /// Whether the machine is to keep lines in order, or the look-up whether it does.
-fn order(words: &mut Words<'_>) -> Result<Call, Cause> {
+fn read_order_call(words: &mut Words<'_>) -> Result<Call, Cause> {
     match words.next_word() {
         Some("keep") => Ok(Call::Keep(true)),
         Some("forget") => Ok(Call::Keep(false)),
@@ -245,10 +245,10 @@ fn order(words: &mut Words<'_>) -> Result<Call, Cause> {
 pub(crate) fn read_call(alloc: Global, turn: &Turn<'_>, line_words: u32) -> Result<Call, Cause> {
     let mut words = turn.call_words(line_words);
     match words.next_word().unwrap_or("") {
-        "run" => Ok(Call::Run(events(alloc, turn, line_words)?)),
-        "program" => program(alloc, turn),
+        "run" => Ok(Call::Run(read_event_list(alloc, turn, line_words)?)),
+        "program" => read_program(alloc, turn),
         name => {
-            let call = call_of(alloc, name, &mut words)?;
+            let call = read_named_call(alloc, name, &mut words)?;
             words.expect_end()?;
             Ok(call)
         }

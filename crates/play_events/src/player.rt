@@ -13,7 +13,9 @@ use std::io::Write;
 pub(crate) struct EventPlayer;
 
 /// The next line. It was read before, so only an allocation can fail.
-pub(crate) fn next<'a>(cursor: &mut Cursor<'a>) -> Result<Option<Turn<'a>>, AllocError> {
+pub(crate) fn next_readable_turn<'a>(
+    cursor: &mut Cursor<'a>,
+) -> Result<Option<Turn<'a>>, AllocError> {
     match cursor.next_turn() {
         Ok(turn) => Ok(turn),
         Err(_) => Err(AllocError),
@@ -21,7 +23,11 @@ pub(crate) fn next<'a>(cursor: &mut Cursor<'a>) -> Result<Option<Turn<'a>>, Allo
 }
 
 /// What a line asks for that was read before.
-pub(crate) fn call_of(alloc: Global, turn: &Turn<'_>, line_words: u32) -> Result<Call, AllocError> {
+pub(crate) fn read_call_again(
+    alloc: Global,
+    turn: &Turn<'_>,
+    line_words: u32,
+) -> Result<Call, AllocError> {
     match read_call(alloc, turn, line_words) {
         Ok(call) => Ok(call),
         Err(_) => Err(AllocError),
@@ -36,8 +42,8 @@ pub(crate) fn play_turn(
 ) -> Result<(), AllocError> {
     reply.clear();
     reply.line_words = played.line_words();
-    let call = call_of(played.alloc, turn, reply.line_words)?;
-    played.play(call, reply);
+    let call = read_call_again(played.alloc, turn, reply.line_words)?;
+    played.play_call(call, reply);
     Ok(())
 }
 
@@ -71,7 +77,7 @@ fn answer_line<D: Dialog>(
         Ok(call) => {
             reply.clear();
             reply.line_words = played.line_words();
-            played.play(call, reply);
+            played.play_call(call, reply);
             dialog.take_answer(reply)
         }
         Err(cause) => dialog.refuse_line(cause),
@@ -95,7 +101,7 @@ impl Player for EventPlayer {
         let mut reply = Reply::new(alloc);
         let mut cursor = example.cursor();
         for _ in 0..u64::MAX {
-            let Some(turn) = next(&mut cursor)? else {
+            let Some(turn) = next_readable_turn(&mut cursor)? else {
                 break;
             };
             play_line(&mut played, &turn, page, &mut reply, out)?;

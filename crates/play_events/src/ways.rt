@@ -2,8 +2,8 @@
 //! The answers must be those that came the first time.
 
 use crate::calls::Call;
-use crate::machines::{Played, opened, put_answers};
-use crate::player::{call_of, next, play_turn};
+use crate::machines::{Played, open_machine, put_answers};
+use crate::player::{next_readable_turn, play_turn, read_call_again};
 use event_text::{Example, Page, Reply, opening_memory_of};
 use interleaving_core::{Answer, Config, Event, System};
 use physiological_order::{Op, WordAddr};
@@ -30,7 +30,7 @@ struct Listed {
 
 impl Listed {
     /// Takes in the event of a line, or its events.
-    fn add(&mut self, at: usize, events: &[Event]) -> io::Result<()> {
+    fn add_events(&mut self, at: usize, events: &[Event]) -> io::Result<()> {
         let _inside: Option<Op> = None;
         for event in events {
             self.events.push(*event)?;
@@ -40,15 +40,15 @@ impl Listed {
     }
 
     /// Takes in the line at an index.
-    fn take(&mut self, at: usize, call: &Call) -> io::Result<()> {
+    fn add_call(&mut self, at: usize, call: &Call) -> io::Result<()> {
         match call {
             Call::Machine(opening) => {
                 self.is_plain = self.is_plain && self.config.is_none();
                 self.config = Some(opening.config);
                 Ok(())
             }
-            Call::Event(event) => self.add(at, &[*event]),
-            Call::Run(events) => self.add(at, events.as_slice()),
+            Call::Event(event) => self.add_events(at, &[*event]),
+            Call::Run(events) => self.add_events(at, events.as_slice()),
             Call::Reopen(_) | Call::Drive(_, _) => {
                 self.is_plain = false;
                 Ok(())
@@ -59,7 +59,11 @@ impl Listed {
 }
 
 /// The events of an example.
-fn events_of(alloc: Global, example: &Example<'_>, line_words: u32) -> io::Result<Listed> {
+fn list_example_events(
+    alloc: Global,
+    example: &Example<'_>,
+    line_words: u32,
+) -> io::Result<Listed> {
     let mut listed = Listed {
         config: None,
         events: Vec::new(alloc),
@@ -68,17 +72,17 @@ fn events_of(alloc: Global, example: &Example<'_>, line_words: u32) -> io::Resul
     };
     let mut cursor = example.cursor();
     for at in 0..usize::MAX {
-        let Some(turn) = next(&mut cursor)? else {
+        let Some(turn) = next_readable_turn(&mut cursor)? else {
             break;
         };
-        let call = call_of(alloc, &turn, line_words)?;
-        listed.take(at, &call)?;
+        let call = read_call_again(alloc, &turn, line_words)?;
+        listed.add_call(at, &call)?;
     }
     Ok(listed)
 }
 
 /// The memory that no example opens with.
-fn other_words(alloc: Global) -> io::Result<Vec<(WordAddr, u64)>> {
+fn other_opening_words(alloc: Global) -> io::Result<Vec<(WordAddr, u64)>> {
     let mut words = Vec::new(alloc);
     for (word, value) in OTHER_WORDS {
         words.push((WordAddr::at(word), value))?;
@@ -87,16 +91,16 @@ fn other_words(alloc: Global) -> io::Result<Vec<(WordAddr, u64)>> {
 }
 
 /// Opens the machine again with these words.
-fn reopen(played: &mut Played, words: &[(WordAddr, u64)]) -> io::Result<()> {
+fn reopen_with_words(played: &mut Played, words: &[(WordAddr, u64)]) -> io::Result<()> {
     let memory = opening_memory_of(played.alloc, words)?;
-    if let Some(reopened) = played.reopen(memory) {
+    if let Some(reopened) = played.reopen_machine(memory) {
         reopened?;
     }
     Ok(())
 }
 
 /// Writes what must be so of a machine that was opened again with the other memory.
-fn put_opened(system: &System, out: &mut Reply) {
+fn put_reopened_machine(system: &System, out: &mut Reply) {
     out.put_named_number("records", system.records().len() as u64);
     out.put_named_number("messages", u64::from(system.messages()));
     out.put_word("words");
@@ -106,35 +110,35 @@ fn put_opened(system: &System, out: &mut Reply) {
 }
 
 /// Opens the machine with the other memory, compares what it then has, and opens it with its own.
-fn restore<W: Write + Drop>(
+fn compare_reopened_machine<W: Write + Drop>(
     played: &mut Played,
     page: &mut Page<'_>,
     reply: &mut Reply,
     out: &mut W,
 ) -> io::Result<()> {
     let alloc = played.alloc;
-    reopen(played, other_words(alloc)?.as_slice())?;
+    reopen_with_words(played, other_opening_words(alloc)?.as_slice())?;
     reply.clear();
     if let Some(system) = &played.system {
-        put_opened(system, reply);
+        put_reopened_machine(system, reply);
     }
     page.compare_opening(AS_OPENED, reply, "opened again", out)?;
     let words = Vec::from_slice(alloc, played.words.as_slice())?;
-    reopen(played, words.as_slice())
+    reopen_with_words(played, words.as_slice())
 }
 
 /// Plays an example on its machine, opened again.
-fn play_again<W: Write + Drop>(
+fn play_on_reopened_machine<W: Write + Drop>(
     played: &mut Played,
     example: &Example<'_>,
     page: &mut Page<'_>,
     out: &mut W,
 ) -> io::Result<()> {
     let mut reply = Reply::new(played.alloc);
-    restore(played, page, &mut reply, out)?;
+    compare_reopened_machine(played, page, &mut reply, out)?;
     let mut cursor = example.cursor();
     for at in 0..usize::MAX {
-        let Some(turn) = next(&mut cursor)? else {
+        let Some(turn) = next_readable_turn(&mut cursor)? else {
             break;
         };
         if turn.call_name() != "machine" {
@@ -146,7 +150,7 @@ fn play_again<W: Write + Drop>(
 }
 
 /// Compares the answers to the events of an example as one list with those that came line by line.
-fn compare_list<W: Write + Drop>(
+fn compare_list_answers<W: Write + Drop>(
     answers: &[Answer],
     listed: &Listed,
     page: &mut Page<'_>,
@@ -171,7 +175,7 @@ fn compare_list<W: Write + Drop>(
 }
 
 /// Plays the events of an example as one list on a new machine.
-fn play_list<W: Write + Drop>(
+fn play_as_one_list<W: Write + Drop>(
     alloc: Global,
     system: &mut System,
     listed: &Listed,
@@ -179,7 +183,7 @@ fn play_list<W: Write + Drop>(
     out: &mut W,
 ) -> io::Result<()> {
     let answers = system.run(listed.events.as_slice())?;
-    compare_list(
+    compare_list_answers(
         answers.as_slice(),
         listed,
         page,
@@ -196,17 +200,17 @@ pub(crate) fn play_other_ways<W: Write + Drop>(
     out: &mut W,
 ) -> io::Result<()> {
     let alloc = played.alloc;
-    let listed = events_of(alloc, example, played.line_words())?;
+    let listed = list_example_events(alloc, example, played.line_words())?;
     let Some(config) = listed.config else {
         return Ok(());
     };
     if !listed.is_plain || played.system.is_none() {
         return Ok(());
     }
-    let anew = opened(alloc, config, played.words.as_slice());
-    play_again(played, example, page, out)?;
+    let anew = open_machine(alloc, config, played.words.as_slice());
+    play_on_reopened_machine(played, example, page, out)?;
     match anew {
-        Ok(mut system) => play_list(alloc, &mut system, &listed, page, out),
+        Ok(mut system) => play_as_one_list(alloc, &mut system, &listed, page, out),
         Err(_) => Err(io::Error::from(AllocError)),
     }
 }

@@ -1,7 +1,7 @@
 //! Look-ups of a seat.
 
 use crate::calls::{BankLook, CoreLook, MailLook};
-use crate::states::{put_bank, put_core};
+use crate::states::{put_bank_seat, put_core_seat};
 use crate::views::{BankView, CoreView, Mail};
 use event_text::{
     NO_MACHINE, Reply, put_copy, put_entry, put_line_words, put_message_counts,
@@ -37,7 +37,7 @@ pub(crate) fn look_at_core(number: u32, view: &CoreView<'_>, look: &CoreLook, ou
         CoreLook::Issued => put_ops(view.issued, out),
         CoreLook::Records => out.put_number(view.records as u64),
         CoreLook::Mail(look) => look_at_mail(&view.mail, look, out),
-        CoreLook::State(words) => put_core(number, view, *words, out),
+        CoreLook::State(words) => put_core_seat(number, view, *words, out),
     }
 }
 
@@ -52,6 +52,6 @@ pub(crate) fn look_at_bank(number: u32, view: &BankView<'_>, look: &BankLook, ou
             None => out.put_word(NO_MACHINE),
         },
         BankLook::Mail(look) => look_at_mail(&view.mail, look, out),
-        BankLook::State(words) => put_bank(number, view, *words, out),
+        BankLook::State(words) => put_bank_seat(number, view, *words, out),
     }
 }

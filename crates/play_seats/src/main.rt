@@ -18,7 +18,7 @@ use event_text::{Cause, Dialog, Example, NO_MACHINE, Page, Player, Turn, run_pla
 use machines::play_machine;
 use numbers::{MOST, play_numbers};
 use play::{OfExample, Play};
-use reading::call_of;
+use reading::read_seats_call;
 use std::alloc::Global;
 use std::io;
 use std::io::Write;
@@ -30,13 +30,13 @@ struct SeatPlayer;
 /// Plays all lines.
 fn play_all<D: Dialog>(play: &mut Play<'_, D>) -> io::Result<()> {
     for _ in 0..u64::MAX {
-        match play.call()? {
+        match play.current_call()? {
             None => return Ok(()),
             Some(Call::Seats(opening)) => play_machine(play, &opening)?,
             Some(Call::Numbers(drawers)) if 0 < drawers && drawers <= MOST => play_numbers(
                 play, drawers,
             )?,
-            Some(_) => play.say(NO_MACHINE)?,
+            Some(_) => play.answer_with(NO_MACHINE)?,
         }
     }
     Ok(())
@@ -44,7 +44,7 @@ fn play_all<D: Dialog>(play: &mut Play<'_, D>) -> io::Result<()> {
 
 impl Player for SeatPlayer {
     fn check_line(&self, alloc: Global, turn: &Turn<'_>) -> Result<(), Cause> {
-        let _call = call_of(alloc, &mut turn.call_words(1))?;
+        let _call = read_seats_call(alloc, &mut turn.call_words(1))?;
         Ok(())
     }
 

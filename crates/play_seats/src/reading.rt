@@ -6,7 +6,7 @@ use event_text::{Cause, Seat, Words, read_opening};
 use std::alloc::Global;
 
 /// A call of any seat.
-fn of_seat(seat: Seat, call: OfSeat) -> Call {
+fn seat_call(seat: Seat, call: OfSeat) -> Call {
     match seat {
         Seat::Core(number) => Call::Core(number, OfCore::Seat(call)),
         Seat::Bank(number) => Call::Bank(number, call),
@@ -14,40 +14,40 @@ fn of_seat(seat: Seat, call: OfSeat) -> Call {
 }
 
 /// A look at the messages of any seat.
-fn mail_look(seat: Seat, look: MailLook) -> Call {
+fn mail_look_call(seat: Seat, look: MailLook) -> Call {
     match seat {
         Seat::Core(number) => Call::CoreLook(number, CoreLook::Mail(look)),
         Seat::Bank(number) => Call::BankLook(number, BankLook::Mail(look)),
     }
 }
 
-fn issue(words: &mut Words<'_>) -> Result<Call, Cause> {
+fn read_issue(words: &mut Words<'_>) -> Result<Call, Cause> {
     let core = words.next_small_number()?;
     Ok(Call::Core(core, OfCore::Issue(words.next_operation()?)))
 }
 
-fn evict(words: &mut Words<'_>) -> Result<Call, Cause> {
+fn read_evict(words: &mut Words<'_>) -> Result<Call, Cause> {
     let seat = words.next_seat()?;
-    Ok(of_seat(seat, OfSeat::Evict(words.next_line_number()?)))
+    Ok(seat_call(seat, OfSeat::Evict(words.next_line_number()?)))
 }
 
 /// A call that changes a seat, or looks something up.
-fn act(name: &str, words: &mut Words<'_>) -> Result<Call, Cause> {
+fn read_seat_action(name: &str, words: &mut Words<'_>) -> Result<Call, Cause> {
     match name {
-        "issue" => issue(words),
+        "issue" => read_issue(words),
         "attempt" => Ok(Call::Core(words.next_small_number()?, OfCore::Attempt)),
         "advance" => Ok(Call::Core(words.next_small_number()?, OfCore::Advance)),
-        "evict" => evict(words),
-        "put" => Ok(of_seat(words.next_seat()?, OfSeat::Put)),
-        "take" => Ok(of_seat(words.next_seat()?, OfSeat::Take)),
-        "serve" => Ok(of_seat(words.next_seat()?, OfSeat::Serve)),
-        "turn" => Ok(of_seat(words.next_seat()?, OfSeat::Turn)),
-        _ => part_look(name, words),
+        "evict" => read_evict(words),
+        "put" => Ok(seat_call(words.next_seat()?, OfSeat::Put)),
+        "take" => Ok(seat_call(words.next_seat()?, OfSeat::Take)),
+        "serve" => Ok(seat_call(words.next_seat()?, OfSeat::Serve)),
+        "turn" => Ok(seat_call(words.next_seat()?, OfSeat::Turn)),
+        _ => read_part_look(name, words),
     }
 }
 
 /// A look at a line by a core.
-fn at_core(name: &str, words: &mut Words<'_>) -> Result<Call, Cause> {
+fn read_line_look_of_core(name: &str, words: &mut Words<'_>) -> Result<Call, Cause> {
     let core = words.next_small_number()?;
     let line = words.next_line_number()?;
     let look = match name {
@@ -58,7 +58,7 @@ fn at_core(name: &str, words: &mut Words<'_>) -> Result<Call, Cause> {
 }
 
 /// A look at a line by a bank.
-fn at_bank(name: &str, words: &mut Words<'_>) -> Result<Call, Cause> {
+fn read_line_look_of_bank(name: &str, words: &mut Words<'_>) -> Result<Call, Cause> {
     let bank = words.next_small_number()?;
     let line = words.next_line_number()?;
     let look = match name {
@@ -68,7 +68,7 @@ fn at_bank(name: &str, words: &mut Words<'_>) -> Result<Call, Cause> {
     Ok(Call::BankLook(bank, look))
 }
 
-fn room(words: &mut Words<'_>) -> Result<Call, Cause> {
+fn read_room_look(words: &mut Words<'_>) -> Result<Call, Cause> {
     match words.next_seat()? {
         Seat::Bank(bank) => Ok(Call::BankLook(bank, BankLook::Room)),
         Seat::Core(_) => Err(Cause::Bank),
@@ -76,25 +76,25 @@ fn room(words: &mut Words<'_>) -> Result<Call, Cause> {
 }
 
 /// A look-up of a core or a bank, or of others.
-fn part_look(name: &str, words: &mut Words<'_>) -> Result<Call, Cause> {
+fn read_part_look(name: &str, words: &mut Words<'_>) -> Result<Call, Cause> {
     match name {
         "open" => Ok(Call::CoreLook(words.next_small_number()?, CoreLook::Open)),
         "time" => Ok(Call::CoreLook(words.next_small_number()?, CoreLook::Time)),
         "issued" => Ok(Call::CoreLook(words.next_small_number()?, CoreLook::Issued)),
-        "victim" | "copy" => at_core(name, words),
+        "victim" | "copy" => read_line_look_of_core(name, words),
         "memory-time" => Ok(Call::BankLook(words.next_small_number()?, BankLook::Time)),
-        "entry" | "dram" => at_bank(name, words),
-        "room" => room(words),
-        _ => seat_look(name, words),
+        "entry" | "dram" => read_line_look_of_bank(name, words),
+        "room" => read_room_look(words),
+        _ => read_seat_look(name, words),
     }
 }
 
-fn held(words: &mut Words<'_>) -> Result<Call, Cause> {
+fn read_held_look(words: &mut Words<'_>) -> Result<Call, Cause> {
     let seat = words.next_seat()?;
-    Ok(mail_look(seat, MailLook::Held(words.next_small_number()?)))
+    Ok(mail_look_call(seat, MailLook::Held(words.next_small_number()?)))
 }
 
-fn state(words: &mut Words<'_>) -> Result<Call, Cause> {
+fn read_state_look(words: &mut Words<'_>) -> Result<Call, Cause> {
     let seat = words.next_seat()?;
     let count = words.next_small_number()?;
     Ok(match seat {
@@ -104,23 +104,23 @@ fn state(words: &mut Words<'_>) -> Result<Call, Cause> {
 }
 
 /// A look-up of a seat's messages, of all of a seat, or of a closed run.
-fn seat_look(name: &str, words: &mut Words<'_>) -> Result<Call, Cause> {
+fn read_seat_look(name: &str, words: &mut Words<'_>) -> Result<Call, Cause> {
     match name {
-        "hand" => Ok(mail_look(words.next_seat()?, MailLook::Hand)),
-        "held" => held(words),
-        "places" => Ok(mail_look(words.next_seat()?, MailLook::Places)),
-        "outbox" => Ok(mail_look(words.next_seat()?, MailLook::Outbox)),
-        "cursor" => Ok(mail_look(words.next_seat()?, MailLook::Cursor)),
-        "stopped" => Ok(mail_look(words.next_seat()?, MailLook::Stopped)),
-        "state" => state(words),
-        "records" => records(words),
-        "sent" => sent(words),
-        _ => Ok(Call::RunLook(run_look(name, words)?)),
+        "hand" => Ok(mail_look_call(words.next_seat()?, MailLook::Hand)),
+        "held" => read_held_look(words),
+        "places" => Ok(mail_look_call(words.next_seat()?, MailLook::Places)),
+        "outbox" => Ok(mail_look_call(words.next_seat()?, MailLook::Outbox)),
+        "cursor" => Ok(mail_look_call(words.next_seat()?, MailLook::Cursor)),
+        "stopped" => Ok(mail_look_call(words.next_seat()?, MailLook::Stopped)),
+        "state" => read_state_look(words),
+        "records" => read_records_look(words),
+        "sent" => read_sent_look(words),
+        _ => Ok(Call::RunLook(read_run_look(name, words)?)),
     }
 }
 
 /// A look-up of a closed run alone.
-fn run_look(name: &str, words: &mut Words<'_>) -> Result<RunLook, Cause> {
+fn read_run_look(name: &str, words: &mut Words<'_>) -> Result<RunLook, Cause> {
     match name {
         "record" => Ok(RunLook::Record(words.next_number()?)),
         "stale" => Ok(RunLook::Stale),
@@ -135,7 +135,7 @@ fn run_look(name: &str, words: &mut Words<'_>) -> Result<RunLook, Cause> {
 }
 
 /// How many records the closed run has, or the core that is named.
-fn records(words: &mut Words<'_>) -> Result<Call, Cause> {
+fn read_records_look(words: &mut Words<'_>) -> Result<Call, Cause> {
     let Some(word) = words.next_word() else {
         return Ok(Call::RunLook(RunLook::Records));
     };
@@ -144,14 +144,14 @@ fn records(words: &mut Words<'_>) -> Result<Call, Cause> {
 }
 
 /// What all seats of the closed run sent, or the seat that is named.
-fn sent(words: &mut Words<'_>) -> Result<Call, Cause> {
+fn read_sent_look(words: &mut Words<'_>) -> Result<Call, Cause> {
     match words.next_word() {
         None => Ok(Call::RunLook(RunLook::Sent)),
-        Some(kind) => Ok(mail_look(words.seat_from_word(kind)?, MailLook::Sent)),
+        Some(kind) => Ok(mail_look_call(words.seat_from_word(kind)?, MailLook::Sent)),
     }
 }
 
-fn numbers(words: &mut Words<'_>) -> Result<Call, Cause> {
+fn read_numbers_opening(words: &mut Words<'_>) -> Result<Call, Cause> {
     let drawers = words.next_small_number()?;
     if drawers == 0 || drawers > MOST {
         return Err(Cause::Drawers);
@@ -160,14 +160,14 @@ fn numbers(words: &mut Words<'_>) -> Result<Call, Cause> {
 }
 
 /// What words ask for.
-pub(crate) fn call_of(alloc: Global, words: &mut Words<'_>) -> Result<Call, Cause> {
+pub(crate) fn read_seats_call(alloc: Global, words: &mut Words<'_>) -> Result<Call, Cause> {
     let call = match words.required_word(Cause::Call)? {
         "seats" => Call::Seats(read_opening(alloc, words)?),
-        "numbers" => numbers(words)?,
+        "numbers" => read_numbers_opening(words)?,
         "draw" => Call::Draw(words.next_small_number()?),
         "drawn" => Call::Drawn(words.next_small_number()?),
         "close" => Call::Close,
-        name => act(name, words)?,
+        name => read_seat_action(name, words)?,
     };
     words.expect_end()?;
     Ok(call)

@@ -2,7 +2,7 @@ use Rattle.std.proofs.Common.{length, refl, arith}
 use Rattle.std.proofs.lemmas.Option.{slice_get_read}
 use Rattle.mailboxes.specs.Seats.{IsBankSeat}
 use Rattle.play_seats.proofs.EachSeat.{each_but_one}
-use Rattle.play_seats.proofs.seats.bank_called.Goals as goal
+use Rattle.play_seats.proofs.seats.call_bank_at.Goals as goal
 
 pub call_bank-requires : goal.call_bank-requires
 call_bank-requires c =

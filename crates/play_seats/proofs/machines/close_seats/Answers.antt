@@ -1,6 +1,6 @@
 use Rattle.std.proofs.Common.{ap, ◌∙◌, sym}
 use Rattle.std.specs.Prelude.{slice_get}
-use Rattle.play_seats.proofs.machines.closed.Goals as goal
+use Rattle.play_seats.proofs.machines.close_seats.Goals as goal
 
 pub is_whole-requires-clause-cores : goal.is_whole-requires-clause-cores
 is_whole-requires-clause-cores c =

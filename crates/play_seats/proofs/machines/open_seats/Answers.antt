@@ -1,4 +1,4 @@
-use Rattle.play_seats.proofs.machines.opened.Goals as goal
+use Rattle.play_seats.proofs.machines.open_seats.Goals as goal
 
 pub returns-in-Ok-clause-cores : goal.returns-in-Ok-clause-cores
 returns-in-Ok-clause-cores c = λ i p e. (c.in-Ok.ensures.cores.1 i p e).0

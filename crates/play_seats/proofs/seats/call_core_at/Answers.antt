@@ -2,7 +2,7 @@ use Rattle.std.proofs.Common.{length, refl, arith}
 use Rattle.std.proofs.lemmas.Option.{slice_get_read}
 use Rattle.mailboxes.specs.Seats.{IsCoreSeat}
 use Rattle.play_seats.proofs.EachSeat.{each_but_one}
-use Rattle.play_seats.proofs.seats.core_called.Goals as goal
+use Rattle.play_seats.proofs.seats.call_core_at.Goals as goal
 
 pub call_core-requires : goal.call_core-requires
 call_core-requires c =

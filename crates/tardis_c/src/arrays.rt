@@ -76,7 +76,7 @@ fn zeros_verdict(
     requires { HaveNone record_fault records.now }
     ensures { IfOk result (IsVerdictOn (flat empty) operations.now records.now) }
 {
-    let records = records_of(alloc, records)?;
+    let records = records_of_plain(alloc, records)?;
     verdict_on(alloc, &Memory::new(alloc), operations, &records)
 }
 
@@ -120,7 +120,10 @@ fn extend_lists(alloc: Global, lists: &mut Vec<Vec<Op>>, number: usize) -> Resul
 }
 
 /// The records, in their order.
-pub(crate) fn records_of(alloc: Global, plain: &[PlainRecord]) -> Result<Vec<Record>, AllocError>
+pub(crate) fn records_of_plain(
+    alloc: Global,
+    plain: &[PlainRecord],
+) -> Result<Vec<Record>, AllocError>
     requires { HaveNone record_fault plain.now }
     ensures { IfOk result (λ records. records.items ≡ map record_of plain.now) }
 {

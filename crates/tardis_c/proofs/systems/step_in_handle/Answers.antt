@@ -1,6 +1,6 @@
 use Rattle.std.proofs.Common.{rules}
 use Rattle.tardis_c.proofs.SystemSteps.{stepped}
-use Rattle.tardis_c.proofs.systems.step.Goals as goal
+use Rattle.tardis_c.proofs.systems.step_in_handle.Goals as goal
 
 pub returns : goal.returns
 returns c =

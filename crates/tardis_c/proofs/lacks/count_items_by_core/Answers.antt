@@ -1,7 +1,7 @@
 use Rattle.std.proofs.Common.{arith}
 use Rattle.std.proofs.lemmas.Grind.{common_steps}
 use Rattle.std.proofs.lemmas.List.Sums.{count_by-le-length}
-use Rattle.tardis_c.proofs.lacks.counts_of.Goals as goal
+use Rattle.tardis_c.proofs.lacks.count_items_by_core.Goals as goal
 
 pub overflow_add-index_mut : goal.overflow_add-index_mut
 overflow_add-index_mut g c =
@@ -10,6 +10,6 @@ overflow_add-index_mut g c =
       common_steps,
       count_by-le-length,
       c.loop-item.invariant c.core-core.result,
-      c.in_ok-widen.ensures.same c.core-core.result,
+      c.in_ok-extend_counts.ensures.same c.core-core.result,
       c.index_mut.ensures.value,
     )

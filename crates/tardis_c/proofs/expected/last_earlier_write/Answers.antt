@@ -2,7 +2,7 @@ use Rattle.std.proofs.Common.{List, [], ◌∷◌, ◌++◌, take, subst, sym, a
 use Rattle.std.proofs.lemmas.List.{take_more}
 use Rattle.physiological_order.specs.declared.operation.Record.{Record}
 use Rattle.tardis_c.specs.Writes.{IsLastWrite}
-use Rattle.tardis_c.proofs.expected.last_write.Goals as goal
+use Rattle.tardis_c.proofs.expected.last_earlier_write.Goals as goal
 
 pub loop-record-preserved : goal.loop-record-preserved
 loop-record-preserved c =

@@ -1,5 +1,5 @@
 use Rattle.std.proofs.Common.{◌≡◌, ◌==◌, ℕ, take, get_or, count_by}
-use Rattle.tardis_c.proofs.lacks.counts_of.Given as goal
+use Rattle.tardis_c.proofs.lacks.count_items_by_core.Given as goal
 
 abbrev pub invariant-loop-item : goal.invariant-loop-item
 invariant-loop-item g l =

@@ -6,7 +6,7 @@ use Rattle.physiological_order.specs.declared.operation.Op.{Op}
 use Rattle.physiological_order.specs.Words.{words_after, words_end}
 use Rattle.tardis_c.specs.Plain.{store_of, words_of}
 use Rattle.tardis_c.specs.declared.plain.PlainWord.{PlainWord}
-use Rattle.tardis_c.proofs.histories.memory_of.Goals as goal
+use Rattle.tardis_c.proofs.histories.memory_of_opening_words.Goals as goal
 
 words_end-push : (words : FinMap nat_cmp ℕ) (ops : List Op) (op : Op) →
     words_end words (ops ++ op ∷ []) ≡ words_after (words_end words ops) op

@@ -3,7 +3,7 @@ use Rattle.physiological_order.specs.declared.operation.Record.{Record}
 use Rattle.physiological_order.specs.Faults.{IsVerdict}
 use Rattle.physiological_order.specs.Order.{flat}
 use Rattle.tardis_c.specs.Plain.{issued_of}
-use Rattle.tardis_c.proofs.histories.history_on.Goals as goal
+use Rattle.tardis_c.proofs.histories.verdict_on_history.Goals as goal
 
 pub found_of_verdict-requires : goal.found_of_verdict-requires
 found_of_verdict-requires c =

@@ -1,6 +1,6 @@
 use Rattle.tardis.specs.Answers.{devices}
 use Rattle.tardis.proofs.Came.{streamed}
-use Rattle.tardis.proofs.jobs.stream_file.Goals as goal
+use Rattle.tardis.proofs.jobs.stream_trace_file.Goals as goal
 
 pub returns : goal.returns
 returns g c =

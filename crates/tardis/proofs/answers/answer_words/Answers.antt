@@ -1,6 +1,6 @@
 use Rattle.std.proofs.Common.{inl, inr, map, refl}
 use Rattle.tardis.proofs.Streams.{can_be_done}
-use Rattle.tardis.proofs.answers.answer.Goals as goal
+use Rattle.tardis.proofs.answers.answer_words.Goals as goal
 
 pub run_job-came-requires : goal.run_job-came-requires
 run_job-came-requires g c = (

@@ -17,7 +17,7 @@ pub struct Example<'a> {
 }
 
 /// What a line says, without its comment.
-pub(crate) fn without_comment(line: &str) -> &str {
+pub(crate) fn line_without_comment(line: &str) -> &str {
     match line.split_once('#') {
         Some((said, _)) => said,
         None => line,
@@ -35,7 +35,7 @@ pub fn text_after_prefix<'a>(text: &'a str, beginning: &str) -> &'a str {
 }
 
 fn is_example_heading(line: &str) -> bool {
-    first_word(without_comment(line)) == "example"
+    first_word(line_without_comment(line)) == "example"
 }
 
 impl<'a> Text<'a> {

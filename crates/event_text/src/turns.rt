@@ -1,7 +1,7 @@
 //! The lines of an example in the order in which they are played: what is repeated comes as often as it says.
 
 use crate::causes::{Cause, Fault};
-use crate::texts::{Example, first_word, text_after_prefix, without_comment};
+use crate::texts::{Example, first_word, line_without_comment, text_after_prefix};
 use crate::turned::decimal_number;
 use crate::words::Words;
 use std::str::Split;
@@ -71,7 +71,7 @@ impl<'a> Cursor<'a> {
             let Some(line) = self.example.lines.get(self.at) else {
                 return self.check_repeat_ended();
             };
-            match self.read_line(without_comment(line)) {
+            match self.read_line(line_without_comment(line)) {
                 Ok(None) => {}
                 Ok(turn) => return Ok(turn),
                 Err(cause) => return Err(self.fault_of_line(self.at, cause)),

@@ -1,7 +1,7 @@
 //! Lines with the answers that came, written after them.
 
 use crate::replies::Reply;
-use crate::texts::{text_after_prefix, without_comment};
+use crate::texts::{line_without_comment, text_after_prefix};
 use crate::turned::{is_expected_answer, put_words_in_turn, split_end_mark};
 use std::alloc::{AllocError, Global};
 
@@ -69,7 +69,7 @@ impl Written {
             told.put_text(line);
             return Ok(());
         }
-        let said = without_comment(line);
+        let said = line_without_comment(line);
         match said.split_once(':') {
             Some((call, _)) => told.put_text(call),
             None => {

@@ -96,7 +96,7 @@ pub(crate) fn put_settled_entries(alloc: Global, system: &System, bank: u32, out
 }
 
 /// Writes the lines of a core's copies.
-pub(crate) fn put_copies(system: &System, core: u32, out: &mut Reply) {
+pub(crate) fn put_lines_of_copies(system: &System, core: u32, out: &mut Reply) {
     match system.copies(core) {
         Ok(lines) => out.put_lines(&lines),
         Err(_) => out.put_word(NO_MEMORY),

@@ -3,7 +3,7 @@
 use crate::calls::{Look, What};
 use crate::histories::{put_arranged_numbers, put_stale_hits, put_verdict_on_records};
 use crate::lists::{
-    DIFFER, put_copies, put_evictable_copies, put_messages_in_flight, put_settled_entries,
+    DIFFER, put_evictable_copies, put_lines_of_copies, put_messages_in_flight, put_settled_entries,
 };
 use crate::states::put_machine_state;
 use event_text::{
@@ -146,7 +146,7 @@ pub(crate) fn put_look_up(
     out: &mut Reply,
 ) {
     match look.what {
-        What::Copies => put_copies(system, look.number, out),
+        What::Copies => put_lines_of_copies(system, look.number, out),
         What::Free => put_evictable_copies(alloc, system, look.number, out),
         What::Entries => put_settled_entries(alloc, system, look.number, out),
         What::Flight => {

@@ -28,7 +28,7 @@ use std::process::ExitCode;
 struct SeatPlayer;
 
 /// Plays all lines.
-fn play_all<D: Dialog>(play: &mut Play<'_, D>) -> io::Result<()> {
+fn play_all_lines<D: Dialog>(play: &mut Play<'_, D>) -> io::Result<()> {
     for _ in 0..u64::MAX {
         match play.current_call()? {
             None => return Ok(()),
@@ -59,7 +59,7 @@ impl Player for SeatPlayer {
     }
 
     fn answer_lines<D: Dialog>(&self, alloc: Global, dialog: &mut D) -> io::Result<()> {
-        play_all(&mut Play::new(alloc, dialog))
+        play_all_lines(&mut Play::new(alloc, dialog))
     }
 
     fn has_other_ways(&self) -> bool {

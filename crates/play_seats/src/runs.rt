@@ -79,7 +79,7 @@ fn look_at_run(alloc: Global, run: &Run, look: &RunLook, out: &mut Reply)
 }
 
 /// Looks up the core of a number, as it was at the close.
-fn look_at_core_left(run: &Run, number: u32, look: &CoreLook, out: &mut Reply)
+fn look_at_closed_core(run: &Run, number: u32, look: &CoreLook, out: &mut Reply)
     requires { Parts run.now }
 {
     let Some(view) = find_closed_core(run.cores.as_slice(), number) else {
@@ -92,7 +92,7 @@ fn look_at_core_left(run: &Run, number: u32, look: &CoreLook, out: &mut Reply)
 }
 
 /// Looks up the bank of a number, as it was at the close.
-fn look_at_bank_left(run: &Run, number: u32, look: &BankLook, out: &mut Reply) {
+fn look_at_closed_bank(run: &Run, number: u32, look: &BankLook, out: &mut Reply) {
     let seat = u64::from(run.set_up.config.cores) + u64::from(number);
     let Some(view) = find_closed_bank(run.banks.as_slice(), seat) else {
         return out.put_word(NO_SEAT);
@@ -106,8 +106,8 @@ pub(crate) fn put_closed_answer(alloc: Global, run: &Run, call: &Call, out: &mut
 {
     match call {
         Call::RunLook(look) => look_at_run(alloc, run, look, out),
-        Call::CoreLook(number, look) => look_at_core_left(run, *number, look, out),
-        Call::BankLook(number, look) => look_at_bank_left(run, *number, look, out),
+        Call::CoreLook(number, look) => look_at_closed_core(run, *number, look, out),
+        Call::BankLook(number, look) => look_at_closed_bank(run, *number, look, out),
         _ => out.put_word(NO_MACHINE),
     }
 }

@@ -46,7 +46,7 @@ pub(crate) fn run_job<R: Threads + Clock + Sync, F: Files, K: Sink, E: Sink>(
             let opening = open_file_if_named(files, *opening);
             let trace = files.open(trace);
             let records = files.open(records);
-            check_files(alloc, options, opening, trace, records, out)
+            check_opened_files(alloc, options, opening, trace, records, out)
         }
     }
 }
@@ -201,7 +201,7 @@ fn open_file_if_named<F: Files>(
 
 // Checks the records of a file against the trace of another, where all were opened, over the memory that a third one
 // gives if it is there.
-fn check_files<S: Source + Drop, K: Sink>(
+fn check_opened_files<S: Source + Drop, K: Sink>(
     alloc: Global,
     options: &CheckOptions,
     opening: Option<Result<S, DeviceError>>,
@@ -213,13 +213,15 @@ fn check_files<S: Source + Drop, K: Sink>(
         trace records out.old out.new result }
 {
     match (trace, records) {
-        (Ok(trace), Ok(records)) => { check_opened(alloc, options, opening, trace, records, out) }
+        (Ok(trace), Ok(records)) => {
+            check_over_optional_opening(alloc, options, opening, trace, records, out)
+        }
         _ => Err(RunError::Read),
     }
 }
 
 // The same where the other two were opened.
-fn check_opened<S: Source + Drop, K: Sink>(
+fn check_over_optional_opening<S: Source + Drop, K: Sink>(
     alloc: Global,
     options: &CheckOptions,
     opening: Option<Result<S, DeviceError>>,

@@ -77,11 +77,11 @@ fn zeros_verdict(
     ensures { IfOk result (IsVerdictOn (flat empty) operations.now records.now) }
 {
     let records = records_of_plain(alloc, records)?;
-    verdict_on(alloc, &Memory::new(alloc), operations, &records)
+    verdict_over_opening(alloc, &Memory::new(alloc), operations, &records)
 }
 
 /// The verdict on records, for what cores were issued over a memory that opens as given.
-pub(crate) fn verdict_on(
+pub(crate) fn verdict_over_opening(
     alloc: Global,
     opening: &Memory,
     operations: &[PlainOperation],

@@ -105,7 +105,7 @@ fn later_write(last: Option<Record>, next: &Record, faulty: &Record) -> Option<R
 fn is_earlier_write(candidate: &Record, faulty: &Record) -> bool
     ensures { IsTrue result ↔ IsEarlier faulty.now candidate.now }
 {
-    writes(faulty.op.word(), candidate.op) && comes_before(candidate, faulty)
+    writes(faulty.op.word(), candidate.op) && record_comes_before(candidate, faulty)
 }
 
 // Whether an operation writes the word of this number.
@@ -119,7 +119,7 @@ fn writes(word: u64, op: Op) -> bool
 }
 
 // Whether a record comes before another, by time and then by number.
-fn comes_before(first: &Record, second: &Record) -> bool
+fn record_comes_before(first: &Record, second: &Record) -> bool
     ensures { IsTrue result ↔ Before first.now second.now }
 {
     first.ts < second.ts || (first.ts == second.ts && first.number < second.number)
@@ -131,7 +131,7 @@ fn is_after_last(next: &Record, last: &Option<Record>) -> bool
 {
     match last {
         None => true,
-        Some(write) => comes_before(write, next),
+        Some(write) => record_comes_before(write, next),
     }
 }
 

@@ -5,7 +5,7 @@ ghost use Rattle.tardis_c.specs.Arrays.{HaveNone, IsVerdictOn};
 ghost use Rattle.tardis_c.specs.Histories.{IsFound, IsHistory};
 ghost use Rattle.tardis_c.specs.Plain.{record_fault, record_of, words_of};
 
-use crate::arrays::{first_fault, records_of_plain, verdict_number, verdict_on};
+use crate::arrays::{first_fault, records_of_plain, verdict_number, verdict_over_opening};
 use crate::expected::{Found, found_of_verdict, without_expected};
 use crate::plain::{PlainOperation, PlainRecord, PlainWord, store_of};
 use physiological_order::{Memory, Verdict};
@@ -61,7 +61,7 @@ fn verdict_on_history(
 {
     let memory = memory_of_opening_words(alloc, opening)?;
     let records = records_of_plain(alloc, records)?;
-    let verdict = verdict_on(alloc, &memory, operations, &records)?;
+    let verdict = verdict_over_opening(alloc, &memory, operations, &records)?;
     *found = found_of_verdict(&memory, &records, verdict);
     Ok(verdict)
 }

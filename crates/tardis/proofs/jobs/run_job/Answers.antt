@@ -27,6 +27,6 @@ returns-in-Check g c = rw c.in-Check.is (
   c.open-records.result,
   c.open-trace.ensures,
   c.open-records.ensures,
-  c.check_files.ensures,
+  c.check_opened_files.ensures,
   refl,
 )

@@ -2,7 +2,7 @@ use Rattle.std.proofs.Common.{ℕ, List, IfOk, ap, subst, ◌∙◌}
 use Rattle.physiological_order.specs.declared.operation.Op.{Op}
 use Rattle.physiological_order.specs.Faults.{IsVerdict, IssuedLists, issued_by}
 use Rattle.physiological_order.specs.Order.{flat}
-use Rattle.tardis_c.proofs.arrays.verdict_on.Goals as goal
+use Rattle.tardis_c.proofs.arrays.verdict_over_opening.Goals as goal
 
 pub returns : goal.returns
 returns c =

@@ -43,7 +43,7 @@ pub(crate) fn put_open_op_of_core(system: &System, core: u32, out: &mut Reply) {
     }
 }
 
-fn put_line_that_makes_room(system: &System, number: MsgNo, out: &mut Reply) {
+fn put_room_for_message(system: &System, number: MsgNo, out: &mut Reply) {
     let Some((bank, line)) = system.make_room(number) else {
         return out.put_word("none");
     };
@@ -96,7 +96,7 @@ fn put_machine_sizes(system: &System, out: &mut Reply) {
 }
 
 /// Writes whether the machine keeps lines in rising order.
-pub(crate) fn put_whether_order_is_kept(system: &System, out: &mut Reply) {
+pub(crate) fn put_order_kept(system: &System, out: &mut Reply) {
     out.put_word(if system.keeps_order() {
         "kept"
     } else {
@@ -116,7 +116,7 @@ fn put_part_look_up(system: &System, look: &Look, out: &mut Reply) {
         What::Message => put_message_or_none(system.look(MsgNo(look.at)), out),
         What::Open => put_open_op_of_core(system, number, out),
         What::Victim => out.put_line_or_none(system.victim(number, line)),
-        What::Room => put_line_that_makes_room(system, MsgNo(look.at), out),
+        What::Room => put_room_for_message(system, MsgNo(look.at), out),
         _ => put_ops(system.issued(number), out),
     }
 }
@@ -129,7 +129,7 @@ fn put_machine_look_up(system: &System, look: &Look, out: &mut Reply) {
         What::Sent => put_message_counts(&system.counts(), out),
         What::Records => out.put_number(system.records().len() as u64),
         What::Record => put_record_at(system.records(), look.at, out),
-        What::Order => put_whether_order_is_kept(system, out),
+        What::Order => put_order_kept(system, out),
         What::Shape => put_machine_sizes(system, out),
         What::Stopped => out.put_word(yes_or_no(system.is_stopped())),
         What::State => put_machine_state(system, look.number, out),

@@ -3,7 +3,7 @@
 use crate::calls::Call;
 use crate::counts::Counted;
 use crate::drives::Drives;
-use crate::looks::{put_look_up, put_whether_order_is_kept};
+use crate::looks::{put_look_up, put_order_kept};
 use event_text::{NO_MACHINE, NO_MEMORY, Opening, Reply, opening_memory_of, put_answer};
 use interleaving_core::{Answer, Config, Event, OpenError, System};
 use physiological_order::{Memory, Op, Record, WordAddr};
@@ -60,7 +60,7 @@ fn keep_or_forget_order(system: &mut System, is_kept: bool, out: &mut Reply) {
     } else if system.keep_order().is_err() {
         return out.put_word(NO_MEMORY);
     }
-    put_whether_order_is_kept(system, out);
+    put_order_kept(system, out);
 }
 
 impl Played {

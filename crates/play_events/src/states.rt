@@ -9,7 +9,7 @@ use network::Words;
 use physiological_order::WordAddr;
 
 /// How many lines these words take.
-fn lines_of_words(system: &System, words: u32) -> u64 {
+fn count_lines_of_words(system: &System, words: u32) -> u64 {
     u64::from(words).div_ceil(u64::from(system.line_words()))
 }
 
@@ -26,7 +26,7 @@ fn put_copies_and_victims(
         out.put_line_address(*line);
         put_copy_of_core(system, core, *line, out);
     }
-    for line in 0..lines_of_words(system, words) {
+    for line in 0..count_lines_of_words(system, words) {
         if let Some(victim) = system.victim(core, LineNo(line)) {
             out.put_text("; victim");
             out.put_line_address(LineNo(line));
@@ -53,7 +53,7 @@ fn put_dram_lines(system: &System, bank: u32, words: u32, out: &mut Reply) {
     let Some(dram) = system.dram(bank) else {
         return;
     };
-    for line in 0..lines_of_words(system, words) {
+    for line in 0..count_lines_of_words(system, words) {
         let values = dram.load(LineNo(line));
         if values != Words::zeros() {
             out.put_word("dram");
@@ -71,7 +71,7 @@ fn put_bank_state(system: &System, number: u32, words: u32, out: &mut Reply) {
     out.put_named_number("bank", u64::from(number));
     out.put_named_number("time", bank.memory_time());
     out.put_text("; ");
-    for line in 0..lines_of_words(system, words) {
+    for line in 0..count_lines_of_words(system, words) {
         let entry = bank.entry(LineNo(line));
         if entry.is_some() {
             out.put_word("entry");
@@ -104,7 +104,7 @@ fn put_machine_totals(system: &System, words: u32, out: &mut Reply) {
         out.put_number(system.coherent(WordAddr::at(u64::from(word))));
     }
     out.put_text("; owners");
-    for line in 0..lines_of_words(system, words) {
+    for line in 0..count_lines_of_words(system, words) {
         out.put_number(u64::from(system.owners(LineNo(line))));
     }
     out.put_text("; stopped");

@@ -7,7 +7,7 @@ use event_text::{Reply, put_copy, put_entry, put_line_words, put_message, put_op
 use network::{LineNo, Words};
 
 /// How many lines this many words have.
-fn lines_of_words(words: u32, out: &Reply) -> u64 {
+fn count_lines_of_words(words: u32, out: &Reply) -> u64 {
     u64::from(words.div_ceil(out.line_words.max(1)))
 }
 
@@ -31,7 +31,7 @@ fn put_copies(view: &CoreView<'_>, out: &mut Reply) {
 }
 
 fn put_victims(view: &CoreView<'_>, words: u32, out: &mut Reply) {
-    for line in 0..lines_of_words(words, out) {
+    for line in 0..count_lines_of_words(words, out) {
         if let Some(victim) = view.core.victim(LineNo(line)) {
             put_name_and_line("; victim", LineNo(line), out);
             out.put_line_address(victim);
@@ -40,7 +40,7 @@ fn put_victims(view: &CoreView<'_>, words: u32, out: &mut Reply) {
 }
 
 fn put_entries(view: &BankView<'_>, words: u32, out: &mut Reply) {
-    for line in 0..lines_of_words(words, out) {
+    for line in 0..count_lines_of_words(words, out) {
         let entry = view.bank.entry(LineNo(line));
         if entry.is_some() {
             put_name_and_line("; entry", LineNo(line), out);
@@ -51,7 +51,7 @@ fn put_entries(view: &BankView<'_>, words: u32, out: &mut Reply) {
 
 /// The words that DRAM has of each line, except lines whose words are all 0.
 fn put_dram_lines(view: &BankView<'_>, words: u32, out: &mut Reply) {
-    for line in 0..lines_of_words(words, out) {
+    for line in 0..count_lines_of_words(words, out) {
         let values = view.dram.load(LineNo(line));
         if values != Words::zeros() {
             put_name_and_line("; dram", LineNo(line), out);

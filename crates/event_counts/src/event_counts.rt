@@ -11,7 +11,7 @@ ghost use Rattle.event_counts.specs.Counting.{FitsIn, answered, evicted, reloade
 ghost use Rattle.event_counts.specs.Counting.{reloaded_at, requested, returned_by, seen, with_message};
 
 use crate::cause::{Cause, cause_of};
-use crate::kind_counts::more;
+use crate::kind_counts::increment_count;
 use crate::lost_copies::{LostCopies, has_copy};
 use crate::part_counts::{CoreCounts, Happening, PartCounts};
 use interleaving_core::{Event, History, PlainAnswer, System};
@@ -107,7 +107,7 @@ impl EventCounts {
         ensures { self.new ≡ seen self.old lost.now.lost to event.now
             (answer_in system.now.records plain.now) system.now (option_copied message.entry) }
     {
-        self.events = more(self.events);
+        self.events = increment_count(self.events);
         self.see_answer(lost, to, system, event, plain);
         self.see_sent_by(system, event, message);
     }
@@ -142,17 +142,17 @@ impl EventCounts {
             self.new ≡ answered self.old lost to event (answer_in system.now.records None) after }
     {
         if let Some(done) = system.last_record() {
-            self.complete(done);
+            self.count_completion(done);
         }
     }
 
     // Counts an operation that completes.
-    fn complete(&mut self, done: &Record)
+    fn count_completion(&mut self, done: &Record)
         ensures { self.new ≡ at_core self.old done.now.core (completed done.now) }
     {
         let core = done.core as usize;
         if core < self.cores.len() {
-            self.cores[core].complete(done);
+            self.cores[core].count_completion(done);
         }
     }
 
@@ -190,7 +190,7 @@ impl EventCounts {
     fn see_held(&mut self, to: Option<Node>)
         ensures { self.new ≡ held self.old to }
     {
-        self.held = more(self.held);
+        self.held = increment_count(self.held);
         if let Some(to) = to {
             self.add_at(to, &Happening::Held);
         }
@@ -200,7 +200,7 @@ impl EventCounts {
     fn see_dropped(&mut self, to: Option<Node>)
         ensures { self.new ≡ dropped self.old to }
     {
-        self.dropped = more(self.dropped);
+        self.dropped = increment_count(self.dropped);
         if let Some(to) = to {
             self.add_at(to, &Happening::Dropped);
         }
@@ -223,7 +223,7 @@ impl EventCounts {
     {
         let at = core as usize;
         if at < self.cores.len() {
-            self.cores[at].part.add(what);
+            self.cores[at].part.count_happening(what);
         }
     }
 
@@ -233,7 +233,7 @@ impl EventCounts {
     {
         let at = bank as usize;
         if at < self.banks.len() {
-            self.banks[at].add(what);
+            self.banks[at].count_happening(what);
         }
     }
 
@@ -268,19 +268,19 @@ impl EventCounts {
         ensures { self.new ≡ returned_by self.old core body.now }
     {
         match body {
-            Body::FlushRep(_) => self.return_line(core),
-            Body::WbRep(_) => self.return_line(core),
+            Body::FlushRep(_) => self.count_returned_line(core),
+            Body::WbRep(_) => self.count_returned_line(core),
             _ => (),
         }
     }
 
     // A core's eviction returns the line.
-    fn return_line(&mut self, core: u32)
+    fn count_returned_line(&mut self, core: u32)
         ensures { self.new ≡ at_core self.old core returned_line }
     {
         let at = core as usize;
         if at < self.cores.len() {
-            self.cores[at].return_line();
+            self.cores[at].count_returned_line();
         }
     }
 
@@ -291,18 +291,18 @@ impl EventCounts {
     {
         if let Node::Core(core) = message.to {
             if let Body::ShRep(_) = message.body {
-                self.reload(system, core, message.line);
+                self.count_reload(system, core, message.line);
             }
         }
     }
 
     // Words of a line are sent to a core.
-    fn reload<K: History>(&mut self, system: &System<K>, core: u32, line: LineNo)
+    fn count_reload<K: History>(&mut self, system: &System<K>, core: u32, line: LineNo)
         ensures { self.new ≡ reloaded_at self.old system.now core line }
     {
         let at = core as usize;
         if has_copy(system, core, line) && at < self.cores.len() {
-            self.cores[at].reload();
+            self.cores[at].count_reload();
         }
     }
 
@@ -310,7 +310,7 @@ impl EventCounts {
     fn see_sent(&mut self, message: &Message)
         ensures { self.new ≡ sent self.old message.now }
     {
-        self.next = more(self.next);
+        self.next = increment_count(self.next);
         self.add_at(message.from, &Happening::Sent(&message.body));
         self.add_at(message.to, &Happening::Sent(&message.body));
     }

@@ -2,7 +2,7 @@ use Rattle.std.proofs.Common.{option_copied, subst, sym}
 use Rattle.interleaving_core.specs.PartChanges.{answer_in}
 use Rattle.event_counts.specs.Counting.{FitsIn, HasRoom}
 use Rattle.event_counts.proofs.CountSizes.{seen_fits}
-use Rattle.event_counts.proofs.counter.Counter.count.Goals as goal
+use Rattle.event_counts.proofs.counter.Counter.count_event.Goals as goal
 
 pub push-requires : goal.push-requires
 push-requires g c =

@@ -14,7 +14,9 @@ use crate::machine::Machine;
 use crate::mailbox::Mailbox;
 use crate::sending::{SendingBank, SendingCore};
 use crate::steps::{SlotSeat, SlotTable, join_view};
-use closed_machine::{BankPart, ClosedMachine, CorePart, Run, empty_slots, merged};
+use closed_machine::{
+    BankPart, ClosedMachine, CorePart, Run, merge_core_records, take_slot_messages,
+};
 use seat_rule::laws::{closed_machines_are_one_state, links_lose_and_double_nothing};
 use std::alloc::{AllocError, Global};
 
@@ -40,7 +42,7 @@ impl Machine {
             r.slots.items r.records.items) }
     {
         let left = self.leave(alloc, cores, banks)?;
-        let records = merged(alloc, &left)?;
+        let records = merge_core_records(alloc, &left)?;
         let ClosedMachine {
             set_up,
             cores,
@@ -89,7 +91,7 @@ impl Machine {
         let last = table.slot_count();
         let closed = table.close_with(seat);
         let count = closed.word(last);
-        empty_slots(closed, &mut slots);
+        take_slot_messages(closed, &mut slots);
         Ok(ClosedMachine {
             set_up,
             cores: core_parts,

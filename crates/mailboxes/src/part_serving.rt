@@ -68,7 +68,7 @@ pub(crate) fn post(is_core: bool, outbox: &mut Outbox, message: &Message) -> Opt
         outbox.send(*message);
         return None;
     }
-    outbox.note(message);
+    outbox.count_sent_to_held(message);
     Some(*message)
 }
 

@@ -105,7 +105,7 @@ returns-clause-state c =
     let whole = c.requires.whole in (
       closes.log,
       closes.counted,
-      subst (λ y. OneState z c.args.cores.items banks closes.log y) (sym c.empty_slots.ensures)
+      subst (λ y. OneState z c.args.cores.items banks closes.log y) (sym c.take_slot_messages.ensures)
           (one_state z c.args.cores.items rest banks first split c.word-count.result slots whole.cores_there
           whole.banks_there closes
           (c.links_lose_and_double_nothing.ensures.taken z closes.seats closes.phases closes.log closes.whole)

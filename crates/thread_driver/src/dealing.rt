@@ -7,7 +7,7 @@ ghost use Rattle.thread_driver.specs.Hands.{banks_in, cores_in, programs_in};
 use crate::shift::Shift;
 use crate::told::QUIET;
 use crate::worker::{Hands, Worker};
-use round_robin::{deal, empty_hands, gather};
+use round_robin::{deal, gather, new_empty_hands};
 use std::alloc::{AllocError, Global};
 use stop_flags::Signaler;
 
@@ -23,9 +23,9 @@ pub(crate) fn open_hands<P: Drop>(
     ensures shares { IfOk result (AreRoomy shift.now) }
 {
     Ok(Hands {
-        cores: empty_hands(alloc, count, shift.cores.len())?,
-        programs: empty_hands(alloc, count, shift.programs.len())?,
-        banks: empty_hands(alloc, count, shift.banks.len())?,
+        cores: new_empty_hands(alloc, count, shift.cores.len())?,
+        programs: new_empty_hands(alloc, count, shift.programs.len())?,
+        banks: new_empty_hands(alloc, count, shift.banks.len())?,
     })
 }
 

@@ -61,7 +61,7 @@ pub(crate) fn work<R: Clock, P: Program + Drop, G: Gate>(
         worker.told = all;
         idle = passes;
         if ends_all(&told) {
-            worker.signaler.stop(signals);
+            worker.signaler.signal_stop(signals);
             return;
         }
         if is_due && signals.workers > 1 {
@@ -179,6 +179,6 @@ fn signal_finished_programs<P: Program>(
 {
     let over = over_count(cores, programs);
     for _ in signaler.said.finished..over {
-        let _finished = signaler.finish(signals);
+        let _finished = signaler.finish_program(signals);
     }
 }

@@ -50,12 +50,12 @@ returns-then-ends_all-clause-works g c =
     let v : Worker g.row.P.Denot = c.pass-passed.new.worker in
     let u = record l { signaler = v.signaler } in
     let pass = c.pass-passed.ensures in
-    let stop = c.stop.ensures in
+    let stop = c.signal_stop.ensures in
     let told = after_telling a m signals w l v.signaler c.loop.invariant.0 pass.signaler pass.kept.0 pass.kept.1
     pass.told in
     ends_after a m signals w u v c.in-Some.told c.after_pass-passes.result.0 told c.in-Some.ensures.passed.0
     c.in-Some.ensures.passed.1
-    (c.after_pass-passes.ensures.told ∙ ap (λ z. told_by_both z c.in-Some.told) pass.kept.2) c.stop.new.self
+    (c.after_pass-passes.ensures.told ∙ ap (λ z. told_by_both z c.in-Some.told) pass.kept.2) c.signal_stop.new.self
     (sym c.if-ends_all.ensures) stop.kept.0
     (ap (λ (h : Said). h.stops) stop.told)
     (ap (λ (h : Said). h.finished) stop.told)

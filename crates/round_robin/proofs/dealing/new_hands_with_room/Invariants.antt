@@ -1,5 +1,5 @@
 use Rattle.std.proofs.Common.{◌≡◌, ◌≤◌, [], length, All, vec_capacity}
-use Rattle.round_robin.proofs.dealing.roomy_hands.Given as goal
+use Rattle.round_robin.proofs.dealing.new_hands_with_room.Given as goal
 
 abbrev pub invariant-loop : goal.invariant-loop
 invariant-loop g l =

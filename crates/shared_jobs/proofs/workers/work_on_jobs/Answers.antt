@@ -1,6 +1,6 @@
 use Rattle.std.proofs.Common.{Some, refl, arith}
 use Rattle.shared_jobs.proofs.Claims.{few_done, same_end}
-use Rattle.shared_jobs.proofs.workers.work.Goals as goal
+use Rattle.shared_jobs.proofs.workers.work_on_jobs.Goals as goal
 
 pub loop-next-smaller : goal.loop-next-smaller
 loop-next-smaller g c =

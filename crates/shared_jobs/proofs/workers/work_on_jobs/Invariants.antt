@@ -1,7 +1,7 @@
 use Rattle.std.proofs.Common.{[], ◌+◌, ◌-◌, length}
 use Rattle.drawn_numbers.specs.Drawn.{RisesFrom}
 use Rattle.shared_jobs.specs.Teams.{HasDone, IsAtWork}
-use Rattle.shared_jobs.proofs.workers.work.Given as goal
+use Rattle.shared_jobs.proofs.workers.work_on_jobs.Given as goal
 
 abbrev pub invariant-loop-next : goal.invariant-loop-next
 invariant-loop-next g l =

@@ -1,6 +1,6 @@
 use Rattle.std.proofs.Common.{◌≡◌, ◌+◌, ◌≤◌, length}
 use Rattle.stop_flags.specs.Signalers.{AllNewSignalers, HasMade}
-use Rattle.stop_flags.proofs.opening.open_others.Given as goal
+use Rattle.stop_flags.proofs.opening.open_other_signalers.Given as goal
 
 abbrev pub invariant-loop-number : goal.invariant-loop-number
 invariant-loop-number l =

@@ -6,7 +6,7 @@ use Rattle.stop_flags.specs.declared.signaler.Signaler.{Signaler}
 use Rattle.stop_flags.proofs.SignalerLists.{new_signaler}
 use Rattle.seat_views.proofs.Lemmas.{more_at}
 use Rattle.stop_flags.specs.Signalers.{IsNewSignaler}
-use Rattle.stop_flags.proofs.opening.open_others.Goals as goal
+use Rattle.stop_flags.proofs.opening.open_other_signalers.Goals as goal
 
 pub make_seat-seat-requires-clause-table : goal.make_seat-seat-requires-clause-table
 make_seat-seat-requires-clause-table c = search rules

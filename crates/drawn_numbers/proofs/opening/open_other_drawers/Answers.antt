@@ -4,7 +4,7 @@ use Rattle.seat_views.specs.Seated.{one_more}
 use Rattle.drawn_numbers.specs.declared.drawer.Drawer.{Drawer}
 use Rattle.drawn_numbers.specs.Drawers.{IsNewDrawer}
 use Rattle.drawn_numbers.proofs.DrawerLists.{new_drawer, more_drawers}
-use Rattle.drawn_numbers.proofs.opening.open_others.Goals as goal
+use Rattle.drawn_numbers.proofs.opening.open_other_drawers.Goals as goal
 
 pub make_seat-seat-requires-clause-table : goal.make_seat-seat-requires-clause-table
 make_seat-seat-requires-clause-table c =

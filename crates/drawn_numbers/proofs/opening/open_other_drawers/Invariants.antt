@@ -1,6 +1,6 @@
 use Rattle.std.proofs.Common.{◌≡◌, ◌+◌, ◌≤◌, length}
 use Rattle.drawn_numbers.specs.Drawers.{AllNewDrawers, HasMade}
-use Rattle.drawn_numbers.proofs.opening.open_others.Given as goal
+use Rattle.drawn_numbers.proofs.opening.open_other_drawers.Given as goal
 
 abbrev pub invariant-loop-number : goal.invariant-loop-number
 invariant-loop-number l =

@@ -1,7 +1,7 @@
 use Rattle.std.proofs.Common.{◌≡◌, ◌++◌, List}
 use Rattle.drawn_numbers.specs.declared.drawer.Drawer.{Drawer}
 use Rattle.drawn_numbers.specs.Dealt.{knows_all, lists_filled}
-use Rattle.drawn_numbers.proofs.closing.join_all.Given as goal
+use Rattle.drawn_numbers.proofs.closing.join_drawers.Given as goal
 
 -- the drawers that are no longer in the list are known, and what they drew is at their numbers
 abbrev pub invariant-loop-drawer : goal.invariant-loop-drawer

@@ -1,7 +1,7 @@
 use Rattle.std.proofs.Common.{◌≡◌, ◌++◌, List}
 use Rattle.stop_flags.specs.declared.signaler.Signaler.{Signaler}
 use Rattle.stop_flags.specs.Heard.{knows_all}
-use Rattle.stop_flags.proofs.closing.join_all.Given as goal
+use Rattle.stop_flags.proofs.closing.join_signalers.Given as goal
 
 -- the signalers that are no longer in the list are known
 abbrev pub invariant-loop-signaler : goal.invariant-loop-signaler

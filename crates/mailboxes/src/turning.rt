@@ -65,7 +65,7 @@ pub(crate) trait Turner {
     fn hand_is_full(&self) -> bool
         ensures { result ≡ full self.now };
 
-    fn to_put(&self) -> u32
+    fn messages_to_put(&self) -> u32
         ensures value { result ≡ waiting self.now }
         ensures within { result ≤ 256 };
 }
@@ -78,7 +78,7 @@ fn put_all<S: Turner>(seat: &mut S, machine: &Machine) -> u32
     ensures put { PutAll (S.puts machine.now) result seat.old seat.new }
     ensures within { result ≤ 256 }
 {
-    let _within = seat.to_put();
+    let _within = seat.messages_to_put();
     for count in 0..257 {
         if !seat.put_one(machine) {
             return count;
@@ -88,7 +88,7 @@ fn put_all<S: Turner>(seat: &mut S, machine: &Machine) -> u32
 }
 
 // Whether nothing came of the messages that are held.
-fn is_idle(served: &Result<Served, Refusal>) -> bool
+fn served_nothing(served: &Result<Served, Refusal>) -> bool
     ensures { result ≡ is_idle served.now }
 {
     matches!(served, Ok(Served::Held | Served::Nothing))
@@ -127,7 +127,7 @@ fn serve_first<S: Turner>(seat: &mut S, machine: &Machine) -> Result<Served, Ref
         return seat.serve_one(machine);
     }
     let before = seat.serve_one(machine);
-    if is_idle(&before) {
+    if served_nothing(&before) {
         return take_and_serve(seat, machine, before);
     }
     before
@@ -135,7 +135,7 @@ fn serve_first<S: Turner>(seat: &mut S, machine: &Machine) -> Result<Served, Ref
 
 /// Puts what can be put, and serves.
 #[inline(always)]
-pub(crate) fn turn_of<S: Turner>(seat: &mut S, machine: &Machine) -> Result<Turn, Refusal>
+pub(crate) fn seat_turn<S: Turner>(seat: &mut S, machine: &Machine) -> Result<Turn, Refusal>
     requires { S.is_here machine.now seat.old }
     ensures seat { S.is_here machine.now seat.new }
     ensures number { S.number seat.new ≡ S.number seat.old }

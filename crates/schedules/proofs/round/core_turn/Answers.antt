@@ -14,8 +14,7 @@ returns-in-Ok-true g c =
     let n = c.begin_next_step.new in
     let has : is_some (open_op n.system core) ≡ true = search rules in
     did_then acts _ _ (steps_on acts core) (attempts acts core) c.in-Ok-true.ensures.did
-    (end_in c.attempt_with_retry.result)
-    (did_as acts _ _ _ (tries_twice acts core) (attempts acts core)
+    (end_in c.attempt_with_retry.result) (did_as acts _ _ _ (tries_twice acts core) (attempts acts core)
     (attempted acts core (open_op n.system core) (standing (at n.system n.programs n.log) false) has)
     (end_in c.attempt_with_retry.result) c.attempt_with_retry.ensures)
 

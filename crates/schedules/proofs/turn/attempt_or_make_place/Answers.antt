@@ -30,8 +30,7 @@ returns-in_err-evict_copy_for_place-clause-did g c =
     rw (e.1, e.2) (did_then acts _ _ (one (Does (Attempt a.core)))
     (only_if (finds_no_place a.system.now a.core) (makes_place a.core))
     (no_place_found acts _ a.system.now a.programs.now a.log.now a.core _ c.attempt_and_log.new.system
-    c.attempt_and_log.new.log
-    c.in_ok-plain.ensures full) (Some _)
+    c.attempt_and_log.new.log c.in_ok-plain.ensures full) (Some _)
     (did_if acts _ _ _ (finds_no_place a.system.now a.core) (makes_place a.core) found (Some _)
     (c.in_err-evict_copy_for_place.ensures a.programs.now)))
 
@@ -44,8 +43,7 @@ returns-then-is_no_room-clause-did g c =
     ap (λ (x : Answer × Machine). is_no_room x.0) (sym c.in_ok-plain.ensures.0) ∙ full in
     did_then acts _ _ (one (Does (Attempt a.core))) (only_if (finds_no_place a.system.now a.core) (makes_place a.core))
     (no_place_found acts _ a.system.now a.programs.now a.log.now a.core _ c.attempt_and_log.new.system
-    c.attempt_and_log.new.log
-    c.in_ok-plain.ensures full) None
+    c.attempt_and_log.new.log c.in_ok-plain.ensures full) None
     (did_if acts _ _ _ (finds_no_place a.system.now a.core) (makes_place a.core) found None
     (c.in_ok-evict_copy_for_place.ensures a.programs.now))
 

@@ -14,5 +14,4 @@ pub returns : goal.returns
 returns g c programs =
     let a = c.args in
     delivery_made g.P.Program.acts _ a.system.now programs a.log.now a.number _ c.step_and_log.new.system
-    c.step_and_log.new.log
-    c.in_ok-step_and_log.ensures
+    c.step_and_log.new.log c.in_ok-step_and_log.ensures

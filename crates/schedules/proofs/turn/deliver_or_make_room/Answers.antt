@@ -29,8 +29,7 @@ returns-then-waits g c programs =
     did_then acts _ _ (one (Does (Deliver a.number)))
     (only_if (is_held (transition a.system.now (Deliver a.number)).0) (makes_room acts a.is_fair a.number))
     (delivery_made acts _ a.system.now programs a.log.now a.number _ c.deliver_and_log.new.system
-    c.deliver_and_log.new.log
-    c.in_ok-plain.ensures.noted) None
+    c.deliver_and_log.new.log c.in_ok-plain.ensures.noted) None
     (did_nothing acts _ behind _ (makes_room acts a.is_fair a.number)
     (ap (λ (o : Option (ℕ × ℕ)). line_leaves acts a.is_fair a.number o (standing behind false))
     (c.deliver_and_log.ensures.told waits)))
@@ -45,8 +44,7 @@ returns-then-is_held g c programs =
     did_then acts _ _ (one (Does (Deliver a.number)))
     (only_if (is_held (transition a.system.now (Deliver a.number)).0) (makes_room acts a.is_fair a.number))
     (delivery_made acts _ a.system.now programs a.log.now a.number _ c.deliver_and_log.new.system
-    c.deliver_and_log.new.log
-    c.in_ok-plain.ensures.noted) (end_in c.evict_line_for_room.result)
+    c.deliver_and_log.new.log c.in_ok-plain.ensures.noted) (end_in c.evict_line_for_room.result)
     (did_if acts _ _ _ _ (makes_room acts a.is_fair a.number) held (end_in c.evict_line_for_room.result)
     (c.evict_line_for_room.ensures programs))
 

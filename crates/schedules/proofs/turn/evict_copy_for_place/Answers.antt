@@ -31,5 +31,4 @@ returns g c programs =
     let a = c.args in
     let line : victim_for_core a.system.now a.core (open_op a.system.now a.core) ≡ Some c.in-Some.line = search rules in
     rw line (copy_gone g.P.Program.acts _ a.system.now programs a.log.now a.core c.in-Some.line _
-    c.step_and_log.new.system
-    c.step_and_log.new.log c.in_ok-step_and_log.ensures)
+    c.step_and_log.new.system c.step_and_log.new.log c.in_ok-step_and_log.ensures)

@@ -27,8 +27,7 @@ returns-in-Err-clause-many c = λ p points is from told.
     ∙ list_next p.received t (omega (arith, lt, end, lists))) in
     let gives : operation_at test p t ≡ Some c.in-Some.op =
     sym (c.next.ensures ∙ ap next_operation (c.thread_after_received.ensures ∙ ap (resumed
-    (thread_started test t)) parts.0))
-    ∙ c.in-Some.is in
+    (thread_started test t)) parts.0)) ∙ c.in-Some.is in
     let row = c.in_ok-after.ensures p t (omega (arith, lt, end, lists)) whole.0 whole.1 left in
     let more = c.add_point_row.ensures.many (c.in-Err.is ∙ passed_on _ _ told) in
     let added = with_ordered c.loop-thread.next (c.in_ok-after.after.items, c.in_ok-led.led.items) in

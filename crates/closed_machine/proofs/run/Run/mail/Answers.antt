@@ -24,10 +24,8 @@ pub returns-then-number-self : goal.returns-then-number-self
 returns-then-number-self c =
     let p = c.find_by_number-at.ensures in
     let here = found (λ (x : CorePart). x.number) c.args.self.now.cores.items c.args.number c.find_by_number-at.result
-    p.0
-    c.index-part.result.now (ap (λ xs. slice_get xs c.find_by_number-at.result) (sym c.as_slice.ensures.value)
-    ∙ p.1) p.2
-    c.index-part.ensures in
+    p.0 c.index-part.result.now (ap (λ xs. slice_get xs c.find_by_number-at.result) (sym c.as_slice.ensures.value)
+    ∙ p.1) p.2 c.index-part.ensures in
     inl (c.find_by_number-at.result, c.index-part.result.now, here.0, here.1, refl, refl)
 
 pub find_by_number-at-requires-2 : goal.find_by_number-at-requires-2
@@ -54,8 +52,6 @@ pub returns : goal.returns
 returns c =
     let p = c.find_by_number-at-2.ensures in
     let here = found (λ (x : BankPart). x.number) c.args.self.now.banks.items c.args.number c.find_by_number-at-2.result
-    p.0
-    c.index-part-2.result.now (ap (λ xs. slice_get xs c.find_by_number-at-2.result) (sym c.as_slice-2.ensures.value)
-    ∙ p.1) p.2
-    c.index-part-2.ensures in
+    p.0 c.index-part-2.result.now (ap (λ xs. slice_get xs c.find_by_number-at-2.result) (sym c.as_slice-2.ensures.value)
+    ∙ p.1) p.2 c.index-part-2.ensures in
     inr (c.find_by_number-at-2.result, c.index-part-2.result.now, here.0, here.1, refl, refl)

@@ -18,7 +18,7 @@ use network::LineNo;
 use physiological_order::{Op, Record};
 
 // Makes room for one more in both lists; false if one of them is full and allocation failed.
-fn reserve_issued_and_records(issued: &mut Vec<Op>, records: &mut Vec<Record>) -> bool
+fn make_room_for_operation(issued: &mut Vec<Op>, records: &mut Vec<Record>) -> bool
     ensures issued { (issued.new.items ≡ issued.old.items) ×
         (result ≡ true → length issued.new.items < vec_capacity issued.new) }
     ensures records { (records.new.items ≡ records.old.items) ×
@@ -86,7 +86,7 @@ impl CoreSeat {
             ⊎ (vec_capacity self.old.records ≤ length self.old.records.items) }
     {
         may_issue(self.is_stopped, &self.part.core)?;
-        if !reserve_issued_and_records(&mut self.issued, &mut self.records) {
+        if !make_room_for_operation(&mut self.issued, &mut self.records) {
             return Err(Refusal::NoMemory);
         }
         let given = &op;

@@ -13,4 +13,4 @@ change_core_hold-requires-clause-change c =
     issue_moves c.args.machine.now p.mail p.part p.issued.items c.requires (part_of p) c.issue-issued.new.self c.args.op
     c.push_reserved.new.self.items
     (sym c.issue-issued.ensures ∙ ap (λ r. (r, c.issue-issued.new.self)) c.unwrap.ensures)
-    (c.push_reserved.ensures.items ∙ ap (λ xs. xs ++ c.args.op ∷ []) c.reserve_issued_and_records.ensures.issued.0)
+    (c.push_reserved.ensures.items ∙ ap (λ xs. xs ++ c.args.op ∷ []) c.make_room_for_operation.ensures.issued.0)

@@ -180,8 +180,11 @@ impl EventCounts {
         ensures { self.new ≡ evicted self.old event.now }
     {
         match event {
-            Event::EvictCache(core, _) => self.add_at(Node::Core(*core), &Happening::Evicted),
-            Event::EvictBank(bank, _) => self.add_at(Node::Bank(*bank), &Happening::Evicted),
+            Event::EvictCache(core, _) => self.count_at_node(
+                Node::Core(*core),
+                &Happening::Evicted,
+            ),
+            Event::EvictBank(bank, _) => self.count_at_node(Node::Bank(*bank), &Happening::Evicted),
             _ => (),
         }
     }
@@ -192,7 +195,7 @@ impl EventCounts {
     {
         self.held = increment_count(self.held);
         if let Some(to) = to {
-            self.add_at(to, &Happening::Held);
+            self.count_at_node(to, &Happening::Held);
         }
     }
 
@@ -202,23 +205,23 @@ impl EventCounts {
     {
         self.dropped = increment_count(self.dropped);
         if let Some(to) = to {
-            self.add_at(to, &Happening::Dropped);
+            self.count_at_node(to, &Happening::Dropped);
         }
     }
 
     // Something happens at a node.
-    fn add_at(&mut self, node: Node, what: &Happening)
+    fn count_at_node(&mut self, node: Node, what: &Happening)
         ensures { self.new ≡ at_node self.old node (with_happening what.now) }
     {
         match node {
-            Node::Core(core) => self.add_at_core(core, what),
-            Node::Bank(bank) => self.add_at_bank(bank, what),
+            Node::Core(core) => self.count_at_core(core, what),
+            Node::Bank(bank) => self.count_at_bank(bank, what),
             Node::Dram(_) => (),
         }
     }
 
     // Something happens at a core.
-    fn add_at_core(&mut self, core: u32, what: &Happening)
+    fn count_at_core(&mut self, core: u32, what: &Happening)
         ensures { self.new ≡ at_core self.old core (in_part (with_happening what.now)) }
     {
         let at = core as usize;
@@ -228,7 +231,7 @@ impl EventCounts {
     }
 
     // Something happens at a bank.
-    fn add_at_bank(&mut self, bank: u32, what: &Happening)
+    fn count_at_bank(&mut self, bank: u32, what: &Happening)
         ensures { self.new ≡ at_bank self.old bank (with_happening what.now) }
     {
         let at = bank as usize;
@@ -257,14 +260,14 @@ impl EventCounts {
         ensures { self.new ≡ with_message self.old system.now event.now (Some message.now) }
     {
         self.see_sent(message);
-        self.see_words(system, message);
+        self.see_reloaded_words(system, message);
         if let Event::EvictCache(core, _) = event {
-            self.see_returned(*core, &message.body);
+            self.see_returned_line(*core, &message.body);
         }
     }
 
     // A core that evicts a copy sends a message.
-    fn see_returned(&mut self, core: u32, body: &Body)
+    fn see_returned_line(&mut self, core: u32, body: &Body)
         ensures { self.new ≡ returned_by self.old core body.now }
     {
         match body {
@@ -285,7 +288,7 @@ impl EventCounts {
     }
 
     // Counts words that are sent to a core that has a copy of their line.
-    fn see_words<K: History>(&mut self, system: &System<K>, message: &Message)
+    fn see_reloaded_words<K: History>(&mut self, system: &System<K>, message: &Message)
         ensures { self.new ≡ reloaded self.old system.now message.now.to message.now.line
             message.now.body }
     {
@@ -311,8 +314,8 @@ impl EventCounts {
         ensures { self.new ≡ sent self.old message.now }
     {
         self.next = increment_count(self.next);
-        self.add_at(message.from, &Happening::Sent(&message.body));
-        self.add_at(message.to, &Happening::Sent(&message.body));
+        self.count_at_node(message.from, &Happening::Sent(&message.body));
+        self.count_at_node(message.to, &Happening::Sent(&message.body));
     }
 
     /// The counts of the cores, by number.

@@ -34,7 +34,7 @@ impl Model for LostCopies {
 
 // The number that stands for a core and a line.
 #[inline(always)]
-fn key_of(core: u32, line: LineNo) -> u128
+fn key_of_copy(core: u32, line: LineNo) -> u128
     ensures { result ≡ key_of core line }
 {
     line.0 as u128 * 0x1_0000_0000 + core as u128
@@ -54,7 +54,7 @@ impl LostCopies {
     pub(crate) fn loss(&self, core: u32, line: LineNo) -> Option<Cause>
         ensures { result ≡ loss self.now.lost core line }
     {
-        self.hash.get(&key_of(core, line)).copied()
+        self.hash.get(&key_of_copy(core, line)).copied()
     }
 
     /// Makes room for one more copy.
@@ -70,7 +70,7 @@ impl LostCopies {
         requires { 0 < self.old.room }
         ensures { self.new.lost ≡ with_loss self.old.lost core line why }
     {
-        let stored: Result<_, _> = self.hash.insert(key_of(core, line), why);
+        let stored: Result<_, _> = self.hash.insert(key_of_copy(core, line), why);
         let _before = stored.unwrap();
     }
 

@@ -14,7 +14,7 @@ use programs::Step;
 use programs::program::Program;
 
 // The next step of a core's program.
-pub(crate) fn next_in<P: Program>(programs: &[P], core: u32) -> Option<Step>
+pub(crate) fn next_step_of_core<P: Program>(programs: &[P], core: u32) -> Option<Step>
     ensures { result ≡ next_in P.acts programs.now core }
 {
     let at = core as usize;
@@ -30,7 +30,7 @@ pub(crate) fn unfinished_cores<P: Program>(programs: &[P]) -> u64
 {
     let mut mask = 0;
     for core in 0..programs.len().min(64) as u32 {
-        mask = with_bit(mask, core, next_in(programs, core).is_some());
+        mask = with_bit(mask, core, next_step_of_core(programs, core).is_some());
     }
     mask
 }
@@ -60,7 +60,7 @@ fn mark_step_done<P: Program, W>(
     if core >= 64 {
         return;
     }
-    log.set_core_unfinished(core, next_in(programs, core).is_some());
+    log.set_core_unfinished(core, next_step_of_core(programs, core).is_some());
 }
 
 // Tells a core's program that its operation is done, if that completed: the machine's last record is of it.
@@ -107,7 +107,7 @@ fn is_core_over<P: Program, K: History>(system: &System<K>, programs: &[P], core
     if system.open_op(core).is_some() {
         return false;
     }
-    next_in(programs, core).is_none()
+    next_step_of_core(programs, core).is_none()
 }
 
 // Whether that is so of all cores. While a program has a next step, the cores aren't asked.

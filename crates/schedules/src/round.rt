@@ -6,7 +6,7 @@ ghost use Rattle.schedules.specs.RoundSchedule.{no_round, steps_on, tries_twice,
 ghost use Rattle.schedules.specs.Notes.{Did, at};
 
 use crate::log::Log;
-use crate::look_ups::next_in;
+use crate::look_ups::next_step_of_core;
 use crate::schedule::Schedule;
 use crate::turn::{attempt_or_make_place, deliver_or_make_room, do_program_step, make_event};
 use crate::watcher::Watcher;
@@ -63,7 +63,7 @@ fn begin_next_step<P: Program, W: Watcher, K: History>(
     if system.open_op(core).is_some() {
         return Ok(true);
     }
-    let Some(next) = next_in(programs, core) else {
+    let Some(next) = next_step_of_core(programs, core) else {
         return Ok(false);
     };
     do_program_step(system, programs, log, core, &next)?;

@@ -15,7 +15,7 @@ ghost use Rattle.schedules.specs.Notes.{Did, IsAsked, at};
 ghost use Rattle.schedules.specs.SeedViews.{IsLine};
 
 use crate::log::Log;
-use crate::look_ups::next_in;
+use crate::look_ups::next_step_of_core;
 use crate::schedule::Schedule;
 use crate::turn::{attempt_or_make_place, deliver_or_make_room, do_program_step, make_event};
 use crate::watcher::Watcher;
@@ -294,7 +294,7 @@ fn step_core<P: Program, W: Watcher, K: History>(
         attempt_or_make_place(system, programs, log, core)?;
         return Ok(());
     }
-    match next_in(programs, core) {
+    match next_step_of_core(programs, core) {
         Some(next) => do_program_step(system, programs, log, core, &next),
         None => unreachable!(),
     }

@@ -54,7 +54,7 @@ impl Signaler {
 
     /// Reads how many programs are finished, and whether some seat has stopped. It reads the two words one after the
     /// other.
-    pub fn look(&mut self, signals: &Signals) -> Look
+    pub fn read_signals(&mut self, signals: &Signals) -> Look
         requires { IsSignalerOf signals.now self.old }
         ensures signaler { IsSignalerOf signals.now self.new × (self.new.said ≡ self.old.said) }
         ensures kept { (number_of self.new ≡ number_of self.old) × (last_look self.new ≡ result) }

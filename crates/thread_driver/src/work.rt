@@ -136,7 +136,7 @@ fn worker_pass<P: Program + Drop, G: Gate>(
         &worker.cores,
         &worker.programs,
     );
-    let look = worker.signaler.look(signals);
+    let look = worker.signaler.read_signals(signals);
     if look.is_stopped || look.finished >= rota.programs {
         return None;
     }

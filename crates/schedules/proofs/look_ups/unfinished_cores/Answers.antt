@@ -17,7 +17,7 @@ loop-core-preserved g c =
     let bit = c.with_bit-mask.ensures in
     record {
       asked = λ core below. elim (cases_eq core l.core) [
-        | inl e ↦ rw e (bit.here ∙ ap (λ b. cond b 1 0) (c.is_some.ensures ∙ ap is_some c.next_in.ensures))
+        | inl e ↦ rw e (bit.here ∙ ap (λ b. cond b 1 0) (c.is_some.ensures ∙ ap is_some c.next_step_of_core.ensures))
         | inr other ↦ bit.elsewhere core other ∙ l.invariant.asked core (omega (arith, below, other))
       ];
       none = λ core past. bit.elsewhere core (λ e. absurd (omega (arith, e, past)))

@@ -7,21 +7,21 @@ use Rattle.thread_driver.proofs.work.worker_pass.Goals as goal
 
 pub returns-then-look-clause-told : goal.returns-then-look-clause-told
 returns-then-look-clause-told g c =
-    ap (λ (h : Said). h.finished) c.look-look.ensures.signaler.1 ∙
+    ap (λ (h : Said). h.finished) c.read_signals-look.ensures.signaler.1 ∙
     (rw (c.deref.ensures.value, c.deref-2.ensures.value) at c.signal_finished_programs.ensures.told)
 
 pub returns-then-all_turns_used-clause-told : goal.returns-then-all_turns_used-clause-told
 returns-then-all_turns_used-clause-told g c =
-    ap (λ (h : Said). h.finished) c.look-look.ensures.signaler.1 ∙
+    ap (λ (h : Said). h.finished) c.read_signals-look.ensures.signaler.1 ∙
     (rw (c.deref.ensures.value, c.deref-2.ensures.value) at c.signal_finished_programs.ensures.told)
 
 pub returns-then-ends_all_turns-clause-told : goal.returns-then-ends_all_turns-clause-told
 returns-then-ends_all_turns-clause-told g c =
-    ap (λ (h : Said). h.finished) c.look-look.ensures.signaler.1 ∙
+    ap (λ (h : Said). h.finished) c.read_signals-look.ensures.signaler.1 ∙
     (rw (c.deref.ensures.value, c.deref-2.ensures.value) at c.signal_finished_programs.ensures.told)
 
 pub returns-clause-told : goal.returns-clause-told
-returns-clause-told g c = ap (λ (h : Said). h.finished) c.look-look.ensures.signaler.1 ∙
+returns-clause-told g c = ap (λ (h : Said). h.finished) c.read_signals-look.ensures.signaler.1 ∙
     (rw (c.deref.ensures.value, c.deref-2.ensures.value) at c.signal_finished_programs.ensures.told)
 
 pub returns-then-ends_all_turns-clause-passed : goal.returns-then-ends_all_turns-clause-passed

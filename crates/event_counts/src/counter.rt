@@ -140,7 +140,7 @@ impl Counter {
         self.counts
             .see(&self.lost, self.to, system, event, plain, sent);
         self.lost.see(self.copy, event, system);
-        if is_row(self.every, system, plain) {
+        if is_row_due(self.every, system, plain) {
             self.rows.push(&self.counts);
         }
     }
@@ -167,7 +167,11 @@ fn receiver_of_delivery<K: History>(system: &System<K>, event: &Event) -> Option
 }
 
 // Whether an answer of a machine completes an operation, and there is to be a row after it.
-fn is_row<K: History>(every: Option<u64>, system: &System<K>, plain: &Option<PlainAnswer>) -> bool
+fn is_row_due<K: History>(
+    every: Option<u64>,
+    system: &System<K>,
+    plain: &Option<PlainAnswer>,
+) -> bool
     ensures { result ≡ is_row every (length system.now.records)
         (answer_in system.now.records plain.now) }
 {

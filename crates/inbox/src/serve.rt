@@ -50,7 +50,7 @@ fn deliver_to_part<T: Drop, P: Receiver<T>>(part: &mut P, message: &T, places: u
 }
 
 // Puts a message that was sent, if any, at the end of the held list.
-fn push_sent<T: Drop>(held: &mut Queue<T>, sent: Option<T>)
+fn push_sent_to_held<T: Drop>(held: &mut Queue<T>, sent: Option<T>)
     requires place { length (values_of held.old) + length (sent_list sent) ≤ 256 }
     ensures after { values_of held.new ≡ values_of held.old ++ sent_list sent }
 {
@@ -118,7 +118,7 @@ fn apply_held_answer<T: Drop>(
     match answer {
         Answer::Delivered(sent) => {
             drop(held.take(cell));
-            push_sent(held, sent);
+            push_sent_to_held(held, sent);
             Ok(Served::Delivered)
         }
         Answer::Dropped => {
@@ -126,7 +126,7 @@ fn apply_held_answer<T: Drop>(
             Ok(Served::Dropped)
         }
         Answer::Started(sent) => {
-            push_sent(held, sent);
+            push_sent_to_held(held, sent);
             Ok(Served::Started)
         }
         Answer::Held => Ok(Served::Held),
@@ -193,7 +193,7 @@ impl<T: Drop> Inbox<T> {
         match answer {
             Answer::Delivered(sent) => {
                 self.hand = None;
-                push_sent(&mut self.held, sent);
+                push_sent_to_held(&mut self.held, sent);
                 Ok(Served::Delivered)
             }
             Answer::Dropped => {
@@ -202,7 +202,7 @@ impl<T: Drop> Inbox<T> {
             }
             Answer::Started(sent) => {
                 self.hold_hand();
-                push_sent(&mut self.held, sent);
+                push_sent_to_held(&mut self.held, sent);
                 Ok(Served::Started)
             }
             Answer::Held => {

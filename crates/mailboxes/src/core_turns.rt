@@ -28,16 +28,16 @@ impl Turner for CoreSeat {
 
     ghost number = { core_number };
 
-    fn put_one(&mut self, machine: &Machine) -> bool {
+    fn put_message(&mut self, machine: &Machine) -> bool {
         self.put(machine)
     }
 
     #[inline(always)]
-    fn serve_one(&mut self, machine: &Machine) -> Result<Served, Refusal> {
+    fn serve_message(&mut self, machine: &Machine) -> Result<Served, Refusal> {
         self.serve(machine)
     }
 
-    fn take_one(&mut self, machine: &Machine) -> Take {
+    fn take_message(&mut self, machine: &Machine) -> Take {
         self.take(machine)
     }
 

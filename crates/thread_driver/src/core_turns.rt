@@ -6,7 +6,9 @@ ghost use Rattle.thread_driver.specs.Playing.{IsAhead, Plays, SameWork};
 ghost use Rattle.thread_driver.specs.Turns.{AfterRefusal, CoreHadTurn, OpIssued, OpenTried, StepDone, TimeAdvanced};
 ghost use Rattle.thread_driver.specs.Turns.{told_of};
 
-use crate::seat_calls::{advance, attempt_open_op, core_seat_turn, evict_copy_for_place, issue};
+use crate::seat_calls::{
+    advance, attempt_open_op, core_seat_turn, evict_seat_copy_for_place, issue,
+};
 use crate::told::{Told, told_of_turn};
 use machine_table::Refusal;
 use mailboxes::{CoreSeat, Machine, Turn};
@@ -147,7 +149,7 @@ fn handle_refusal(machine: &Machine, seat: &mut CoreSeat, refusal: Refusal) -> R
 {
     match refusal {
         Refusal::NoRoom => {
-            evict_copy_for_place(machine, seat);
+            evict_seat_copy_for_place(machine, seat);
             Ok(false)
         }
         _ => Err(refusal),

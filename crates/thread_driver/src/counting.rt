@@ -9,7 +9,7 @@ use mailboxes::CoreSeat;
 use programs::program::Program;
 
 /// Whether no core has an open operation, and no program a next step.
-pub(crate) fn are_cores_over<P: Program>(cores: &[CoreSeat], programs: &[P]) -> bool
+pub(crate) fn are_core_seats_over<P: Program>(cores: &[CoreSeat], programs: &[P]) -> bool
     requires { length programs.now ≡ length cores.now }
     ensures done { result ≡ true → AreOver P.acts cores.now programs.now }
     ensures all_done { AreOver P.acts cores.now programs.now → result ≡ true }
@@ -23,7 +23,7 @@ pub(crate) fn are_cores_over<P: Program>(cores: &[CoreSeat], programs: &[P]) -> 
 }
 
 /// How many cores have no open operation, and a program without a next step.
-pub(crate) fn count_cores_over<P: Program>(cores: &[CoreSeat], programs: &[P]) -> u64
+pub(crate) fn count_core_seats_over<P: Program>(cores: &[CoreSeat], programs: &[P]) -> u64
     requires { length programs.now ≡ length cores.now }
     ensures { result ≡ over_in P.acts (zip cores.now programs.now) }
 {

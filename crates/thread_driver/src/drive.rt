@@ -10,7 +10,7 @@ ghost use Rattle.thread_driver.specs.Shifts.{AreBanksInOrder, AreCoresInOrder, A
 ghost use Rattle.thread_driver.specs.Shifts.{Ran, RefusedAtOnce, end_told};
 ghost use Rattle.thread_driver.specs.Teams.{AllWork, AreReady, IsReady, Works, ends_all};
 
-use crate::counting::are_cores_over;
+use crate::counting::are_core_seats_over;
 use crate::dealing::{deal_shift, disband_team, form_team, gather_shift, open_hands};
 use crate::shift::Shift;
 use crate::told::Told;
@@ -232,7 +232,7 @@ fn end_of_shift<P: Program + Drop>(shift: &Shift<P>, told: Told) -> End
         result ≡ end.AllDone }
     ensures otherwise { result ≢ end.AllDone → result ≡ end_told told }
 {
-    if are_cores_over(&shift.cores, &shift.programs) {
+    if are_core_seats_over(&shift.cores, &shift.programs) {
         return End::AllDone;
     }
     if told.no_memory {

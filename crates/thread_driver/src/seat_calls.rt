@@ -51,7 +51,7 @@ pub(crate) fn attempt_open_op(
 }
 
 /// Evicts the copy that makes room for the line of the open operation.
-pub(crate) fn evict_copy_for_place(machine: &Machine, seat: &mut CoreSeat)
+pub(crate) fn evict_seat_copy_for_place(machine: &Machine, seat: &mut CoreSeat)
     requires seat { IsCoreSeat machine.now seat.old }
     ensures seat { IsCoreSeat machine.now seat.new }
     ensures work { SameWork seat.old seat.new }

@@ -8,7 +8,7 @@ ghost use Rattle.thread_driver.specs.Playing.{AreAhead};
 ghost use Rattle.thread_driver.specs.Teams.{FoundEnd, FoundNoEnd, HasCounts, HasUsedAll, IsReady, SeatsPassed, Works};
 ghost use Rattle.thread_driver.specs.Teams.{over_in, rested};
 
-use crate::counting::{all_turns_used, count_cores_over};
+use crate::counting::{all_turns_used, count_core_seats_over};
 use crate::pass::{bank_pass, core_pass, ends_all_turns};
 use crate::told::{QUIET, Told, told_by_both};
 use crate::worker::{Rota, Worker};
@@ -177,7 +177,7 @@ fn signal_finished_programs<P: Program>(
         (last_look signaler.new ≡ last_look signaler.old) ×
         (signaler.new.said.stops ≡ signaler.old.said.stops) }
 {
-    let over = count_cores_over(cores, programs);
+    let over = count_core_seats_over(cores, programs);
     for _ in signaler.said.finished..over {
         let _finished = signaler.finish_program(signals);
     }

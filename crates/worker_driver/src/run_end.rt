@@ -65,12 +65,12 @@ fn first_word_values<M: Finished>(
     ensures { IfOk result (λ values. (m : Machine) → M.shows machine.now m →
         values.items ≡ values_from m 0 count) }
 {
-    let words = first_words(alloc, count)?;
+    let words = first_word_addresses(alloc, count)?;
     machine.values(alloc, &words)
 }
 
 // The first words, by rising address.
-fn first_words(alloc: Global, count: usize) -> Result<Vec<WordAddr>, AllocError>
+fn first_word_addresses(alloc: Global, count: usize) -> Result<Vec<WordAddr>, AllocError>
     requires { count ≤ 64 }
     ensures { IfOk result (λ words. (m : Machine) →
         map (coherent m) words.items ≡ values_from m 0 count) }

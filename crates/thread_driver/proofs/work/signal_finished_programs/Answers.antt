@@ -8,7 +8,7 @@ use Rattle.thread_driver.proofs.work.signal_finished_programs.Goals as goal
 pub loop-preserved : goal.loop-preserved
 loop-preserved g c =
     let i = c.loop.invariant in
-    let over = c.count_cores_over-over.ensures in
+    let over = c.count_core_seats_over-over.ensures in
     let all = over_few g.P.Program.acts (zip c.args.cores.now c.args.programs.now) in
     let short = pairs_few c.args.cores.now c.args.programs.now in
     let few = c.requires.few in

@@ -4,7 +4,7 @@ use Rattle.std.proofs.lemmas.Bool.{cases_lt}
 use Rattle.std.proofs.lemmas.Option.{slice_get_within}
 use Rattle.mailboxes.specs.declared.core_seat.CoreSeat.{CoreSeat}
 use Rattle.thread_driver.proofs.Lists.{both_none, here, some_is}
-use Rattle.thread_driver.proofs.counting.are_cores_over.Goals as goal
+use Rattle.thread_driver.proofs.counting.are_core_seats_over.Goals as goal
 
 pub loop-i-preserved : goal.loop-i-preserved
 loop-i-preserved g c = λ k p a lt at_p at_a.

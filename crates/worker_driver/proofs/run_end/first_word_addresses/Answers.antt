@@ -2,7 +2,7 @@ use Rattle.std.proofs.Common.{◌++◌, [], ◌∷◌, map, ap, ap₂, ◌∙◌
 use Rattle.std.proofs.lemmas.List.{map-append}
 use Rattle.machine_theorem.specs.Coherence.{coherent}
 use Rattle.worker_driver.proofs.Rows.{next_value}
-use Rattle.worker_driver.proofs.run_end.first_words.Goals as goal
+use Rattle.worker_driver.proofs.run_end.first_word_addresses.Goals as goal
 
 pub loop-word-preserved : goal.loop-word-preserved
 loop-word-preserved c = λ m.

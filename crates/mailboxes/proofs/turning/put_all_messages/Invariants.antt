@@ -1,6 +1,6 @@
 use Rattle.std.proofs.Common.{◌≡◌, ◌+◌}
 use Rattle.mailboxes.specs.Turns.{PutSo}
-use Rattle.mailboxes.proofs.turning.put_all.Given as goal
+use Rattle.mailboxes.proofs.turning.put_all_messages.Given as goal
 
 abbrev pub invariant-loop-count : goal.invariant-loop-count
 invariant-loop-count g l = record {

@@ -1,7 +1,7 @@
 use Rattle.std.proofs.Common.{◌≡◌, ◌<◌, ℕ, Some, None}
 use Rattle.std.specs.Prelude.{slice_get}
 use Rattle.mailboxes.specs.declared.core_seat.CoreSeat.{CoreSeat}
-use Rattle.thread_driver.proofs.counting.are_cores_over.Given as goal
+use Rattle.thread_driver.proofs.counting.are_core_seats_over.Given as goal
 
 abbrev pub invariant-loop-i : goal.invariant-loop-i
 invariant-loop-i g l =

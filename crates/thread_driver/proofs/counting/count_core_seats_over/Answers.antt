@@ -4,7 +4,7 @@ use Rattle.thread_driver.specs.Teams.{over_in}
 use Rattle.thread_driver.proofs.Counted.{all_counted, counts_one, one_counted, over_from}
 use Rattle.thread_driver.proofs.Lists.{here}
 use Rattle.thread_driver.proofs.Pairs.{pair_there, pairs_few}
-use Rattle.thread_driver.proofs.counting.count_cores_over.Goals as goal
+use Rattle.thread_driver.proofs.counting.count_core_seats_over.Goals as goal
 
 pub loop-i-preserved : goal.loop-i-preserved
 loop-i-preserved g c =

@@ -26,7 +26,7 @@ PASSED_ON = re.compile(r"\s*(?:Err\()?(?:AllocError|(?:\w+::)+(?:NoMemory|Memory
 GOES_ON = re.compile(r"\s*(?:Some\()?Err\(AllocError\)+ => (?!(?:return )?Err\(|\w+\(Err\(|.*NoMemory)|"
                      r".*(?:\bErr\(_\w*\)|\.(?:ok|is_err|is_ok|unwrap_or\w*)\(|\blet Ok\(|\b(?:yield_now|sleep)\()")
 SKIPPED = re.compile(r"\s*(ghost |ensures\b|requires\b|impl\b|\) ->|[^=]*[≡≢])")
-CALL = re.compile(r"(?<!fn )\b(?:reserve|with_capacity|from_elem|new_results)\w*(?:::<.*?>)?(?=\()|\bvec!(?=\[in )|"
+CALL = re.compile(r"(?<!fn )\b(?:reserve|with_capacity|from_elem|new_result_list)\w*(?:::<.*?>)?(?=\()|\bvec!(?=\[in )|"
                   r"\b(?:(?:RankedLines|Blocks)::of|(?:Arena|Chains|Cells|Rows|LineSets|LanePlaces)::new)(?=\()")
 BOUND = re.compile(r"\s*(?:let (?P<pattern>.*?)(?:: .*?)?|(?P<name>\w+)) [-+*/%&|^<>]*=(?!=)")
 PLAIN = re.compile(r"(?:[\d_]+|(?:\w+\.)+len\(\))(?: as usize)?")

@@ -9,9 +9,9 @@ ghost use Rattle.closed_machine.specs.ValuesLeft.{ValuesLeft};
 ghost use Rattle.closed_machine.specs.declared.parts.CorePart.{CorePart};
 ghost use Rattle.closed_machine.specs.RunParts.{Parts, state_of_run};
 
-use crate::numbered::find;
+use crate::numbered::find_by_number;
 use crate::run::Run;
-use crate::values::{value_left, values_left};
+use crate::values::{value_after_records, values_after_records};
 use machine_theorem::move_laws::{
     places_count_records, reached_states_have_the_invariant, records_are_in_order,
 };
@@ -54,7 +54,7 @@ impl Run {
         if core >= self.set_up.config.cores {
             return &[];
         }
-        let at = find(self.cores.as_slice(), core);
+        let at = find_by_number(self.cores.as_slice(), core);
         self.cores[at].issued.as_slice()
     }
 
@@ -67,7 +67,7 @@ impl Run {
         ensures left { (arranged : List Record) → Arrangement self.now.records.items arranged →
             result ≡ replay_end (flat self.now.set_up.memory) (map (λ r. r.op) arranged) addr }
     {
-        value_left(&self.set_up.memory, self.records.as_slice(), addr)
+        value_after_records(&self.set_up.memory, self.records.as_slice(), addr)
     }
 
     /// The values of these words, in their order, each as `value` answers it. The call looks at each record once,
@@ -80,6 +80,6 @@ impl Run {
         ensures left { IfOk result (λ values. ValuesLeft
             (flat self.now.set_up.memory) self.now.records.items words.now values.items) }
     {
-        values_left(alloc, &self.set_up.memory, self.records.as_slice(), words)
+        values_after_records(alloc, &self.set_up.memory, self.records.as_slice(), words)
     }
 }

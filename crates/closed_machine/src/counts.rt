@@ -24,14 +24,14 @@ impl Run {
         let mut counts = Counts::zeros();
         for number in 0..seats {
             let (outbox, _) = self.mail(number);
-            counts = plus(counts, outbox.counts());
+            counts = add_counts(counts, outbox.counts());
         }
         counts
     }
 }
 
 // Two counts, added up. What one of 72 seats counted fits 64 bits.
-fn plus(sum: Counts, more: Counts) -> Counts
+fn add_counts(sum: Counts, more: Counts) -> Counts
     requires sum { AreCounts sum (72 * (2 ^ 64 - 1)) }
     requires more { AreCounts more (2 ^ 64 - 1) }
     ensures { result ≡ plus sum more }

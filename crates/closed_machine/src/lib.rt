@@ -14,9 +14,9 @@ mod run;
 mod slots;
 mod values;
 
-pub use merging::merged;
-pub use numbered::{Numbered, has_all};
+pub use merging::merge_core_records;
+pub use numbered::{Numbered, has_all_numbers};
 pub use outbox::Outbox;
 pub use parts::{BankPart, ClosedMachine, CorePart};
 pub use run::Run;
-pub use slots::empty_slots;
+pub use slots::take_slot_messages;

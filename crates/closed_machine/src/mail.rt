@@ -4,7 +4,7 @@ ghost use Rattle.seat_rule.specs.Rule.{seat_count};
 ghost use Rattle.closed_machine.specs.RunParts.{Parts};
 ghost use Rattle.closed_machine.specs.RunSums.{Left};
 
-use crate::numbered::{Numbered, find};
+use crate::numbered::{Numbered, find_by_number};
 use crate::outbox::Outbox;
 use crate::parts::{BankPart, CorePart};
 use crate::run::Run;
@@ -35,11 +35,11 @@ impl Run {
         ensures { Left self.now number result.0.now result.1.now }
     {
         if number < self.set_up.config.cores {
-            let at = find(self.cores.as_slice(), number);
+            let at = find_by_number(self.cores.as_slice(), number);
             let part = &self.cores[at];
             return (&part.outbox, &part.inbox);
         }
-        let at = find(self.banks.as_slice(), number);
+        let at = find_by_number(self.banks.as_slice(), number);
         let part = &self.banks[at];
         (&part.outbox, &part.inbox)
     }

@@ -8,7 +8,7 @@ ghost use Rattle.inbox.specs.Queues.{values_of};
 ghost use Rattle.closed_machine.specs.Sending.{can_still_send, can_send_out, has_outbox_place};
 ghost use Rattle.closed_machine.specs.Sending.{no_outbox, noted, sent_out};
 
-use crate::owners::grants_of;
+use crate::owners::grants_in_message;
 use inbox::Queue;
 use machine_table::Counts;
 use network::{LineNo, Message};
@@ -100,7 +100,7 @@ impl Outbox {
             let Some(cell) = next else {
                 return count;
             };
-            count += grants_of(Some(self.queue.get(cell)), line);
+            count += grants_in_message(Some(self.queue.get(cell)), line);
             next = self.queue.next(cell);
         }
         count
@@ -139,7 +139,7 @@ impl Outbox {
     }
 
     /// Counts a message that the seat sends to its own held list.
-    pub fn note(&mut self, message: &Message)
+    pub fn count_sent_to_held(&mut self, message: &Message)
         requires { self.old.sent < 2 ^ 64 - 1 }
         ensures { self.new ≡ noted self.old message.now }
     {

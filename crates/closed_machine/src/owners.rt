@@ -9,7 +9,7 @@ ghost use Rattle.seat_rule.specs.Rule.{bag_of_hold, content, seat_count, slot_co
 ghost use Rattle.closed_machine.specs.RunParts.{Parts, state_of_run};
 ghost use Rattle.closed_machine.specs.RunSums.{messages_left};
 
-use crate::numbered::find;
+use crate::numbered::find_by_number;
 use crate::outbox::Outbox;
 use crate::run::Run;
 use core_pts::Core;
@@ -40,8 +40,8 @@ impl Run {
     {
         let mut count = 0;
         for core in 0..self.set_up.config.cores {
-            let at = find(self.cores.as_slice(), core);
-            count += owner_in(&self.cores[at].core, line);
+            let at = find_by_number(self.cores.as_slice(), core);
+            count += exclusive_copies_in_core(&self.cores[at].core, line);
         }
         count
     }
@@ -58,7 +58,7 @@ impl Run {
         let mut count = 0;
         for number in 0..seats {
             let (outbox, inbox) = self.mail(number);
-            count += grants_with(outbox, inbox, line);
+            count += grants_in_mail(outbox, inbox, line);
         }
         count
     }
@@ -74,14 +74,14 @@ impl Run {
         let slots = 8 * self.set_up.config.cores * self.set_up.config.banks;
         let mut count = 0;
         for slot in 0..slots {
-            count += grants_of(self.slots[slot as usize].as_ref(), line);
+            count += grants_in_message(self.slots[slot as usize].as_ref(), line);
         }
         count
     }
 }
 
 // 1 if the core has an Exclusive copy of a line.
-fn owner_in(core: &Core, line: LineNo) -> u32
+fn exclusive_copies_in_core(core: &Core, line: LineNo) -> u32
     ensures value { result ≡ owner_in (copy_of core.now.cache line) }
     ensures one { result ≤ 1 }
 {
@@ -92,27 +92,27 @@ fn owner_in(core: &Core, line: LineNo) -> u32
 }
 
 // How many grants and returns of a line a seat left.
-fn grants_with(outbox: &Outbox, inbox: &Inbox<Message>, line: LineNo) -> u32
+fn grants_in_mail(outbox: &Outbox, inbox: &Inbox<Message>, line: LineNo) -> u32
     ensures value { result ≡ weigh (ownership_in line) (messages_left outbox.now inbox.now) }
     ensures within { result ≤ 513 }
 {
-    outbox.grants(line) + grants_of(inbox.hand(), line) + grants_held(inbox, line)
+    outbox.grants(line) + grants_in_message(inbox.hand(), line) + grants_in_held_list(inbox, line)
 }
 
 // How many of the held messages are grants and returns of a line.
-fn grants_held(inbox: &Inbox<Message>, line: LineNo) -> u32
+fn grants_in_held_list(inbox: &Inbox<Message>, line: LineNo) -> u32
     ensures value { result ≡ weigh (ownership_in line) inbox.now.held }
     ensures within { result ≤ 256 }
 {
     let mut count = 0;
     for at in 0..256 - inbox.places() {
-        count += grants_of(inbox.held(at), line);
+        count += grants_in_message(inbox.held(at), line);
     }
     count
 }
 
 // 1 if there is a message, and it is a grant or a return of a line.
-pub(crate) fn grants_of(message: Option<&Message>, line: LineNo) -> u32
+pub(crate) fn grants_in_message(message: Option<&Message>, line: LineNo) -> u32
     ensures value { result ≡ weigh (ownership_in line) (option_to_list (option_copied message.entry)) }
     ensures one { result ≤ 1 }
 {

@@ -7,7 +7,10 @@ use network::{Body, Message};
 use std::alloc::Global;
 
 /// Takes out what the slots of a closed table have, in their order, and frees their memory.
-pub fn empty_slots(mut closed: Closed<Option<Message>, Global>, slots: &mut Vec<Option<Message>>)
+pub fn take_slot_messages(
+    mut closed: Closed<Option<Message>, Global>,
+    slots: &mut Vec<Option<Message>>,
+)
     requires full { IsFull closed.slots }
     requires room { (slots.old.items ≡ []) × (slots_len closed.slots ≤ vec_capacity slots.old) }
     ensures { slots.new.items ≡ slots_items closed.slots }

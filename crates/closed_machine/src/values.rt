@@ -19,7 +19,7 @@ pub(crate) struct Write {
 
 /// The value of a word once the operations of these records were performed on a memory, one after the other by their
 /// times, and at equal times by their numbers. The records may stand in any order. The call looks at each once.
-pub(crate) fn value_left(opening: &Memory, records: &[Record], addr: WordAddr) -> u64
+pub(crate) fn value_after_records(opening: &Memory, records: &[Record], addr: WordAddr) -> u64
     ensures { (arranged : List Record) → Arrangement records.now arranged →
         result ≡ replay_end (flat opening.now) (map (λ r. r.op) arranged) addr }
 {
@@ -29,10 +29,10 @@ pub(crate) fn value_left(opening: &Memory, records: &[Record], addr: WordAddr) -
     }
 }
 
-/// The values of these words, in their order, each as `value_left` answers it. The call looks at each record once,
-/// however many words there are. AllocError if memory for the list, or for the last write of each word, can't be
+/// The values of these words, in their order, each as `value_after_records` answers it. The call looks at each record
+/// once, however many words there are. AllocError if memory for the list, or for the last write of each word, can't be
 /// allocated.
-pub(crate) fn values_left(
+pub(crate) fn values_after_records(
     alloc: Global,
     opening: &Memory,
     records: &[Record],
@@ -42,11 +42,11 @@ pub(crate) fn values_left(
         ValuesLeft (flat opening.now) records.now words.now values.items) }
 {
     let lasts = last_writes(alloc, records)?;
-    values_in(alloc, opening, &lasts, words)
+    values_after_writes(alloc, opening, &lasts, words)
 }
 
 // The values of words, by the last writes of all words.
-fn values_in(
+fn values_after_writes(
     alloc: Global,
     opening: &Memory,
     lasts: &NumberMap<Write>,
@@ -57,12 +57,12 @@ fn values_in(
 {
     words
         .iter()
-        .map(|word| value_in(opening, lasts, *word))
+        .map(|word| value_after_writes(opening, lasts, *word))
         .collect(alloc)
 }
 
 // The value of a word, by the last writes of all words.
-fn value_in(opening: &Memory, lasts: &NumberMap<Write>, addr: WordAddr) -> u64
+fn value_after_writes(opening: &Memory, lasts: &NumberMap<Write>, addr: WordAddr) -> u64
     ensures { result ≡ value_in (flat opening.now) lasts.now addr }
 {
     match lasts.get(addr.word()) {
@@ -77,18 +77,18 @@ fn last_writes(alloc: Global, records: &[Record]) -> Result<NumberMap<Write>, Al
 {
     let mut lasts = NumberMap::new(alloc);
     for record in records {
-        add_record(&mut lasts, record)?;
+        update_last_writes(&mut lasts, record)?;
     }
     Ok(lasts)
 }
 
 // The last writes, with one record more.
-fn add_record(lasts: &mut NumberMap<Write>, next: &Record) -> Result<(), AllocError>
+fn update_last_writes(lasts: &mut NumberMap<Write>, next: &Record) -> Result<(), AllocError>
     ensures { OnOk result ((before : List Record) → AreLast before lasts.old →
         AreLast (before ++ next.now ∷ []) lasts.new) }
 {
     let addr = next.op.addr();
-    match written(&next.op, addr) {
+    match written_value(&next.op, addr) {
         None => Ok(()),
         Some(value) => {
             let at = addr.word();
@@ -97,7 +97,7 @@ fn add_record(lasts: &mut NumberMap<Write>, next: &Record) -> Result<(), AllocEr
                 number: next.number,
                 value,
             };
-            let last = last_of(lasts.get(at), write);
+            let last = last_write_with(lasts.get(at), write);
             lasts.insert(at, last)?;
             Ok(())
         }
@@ -110,19 +110,19 @@ fn last_write(records: &[Record], addr: WordAddr) -> Option<Write>
 {
     let mut last = None;
     for record in records {
-        last = with_record(last, record, addr);
+        last = last_write_with_record(last, record, addr);
     }
     last
 }
 
 // The last write, with one record more.
-fn with_record(last: Option<Write>, next: &Record, addr: WordAddr) -> Option<Write>
+fn last_write_with_record(last: Option<Write>, next: &Record, addr: WordAddr) -> Option<Write>
     ensures { (before : List Record) → IsLast addr before last →
         IsLast addr (before ++ next.now ∷ []) result }
 {
-    match written(&next.op, addr) {
+    match written_value(&next.op, addr) {
         None => last,
-        Some(value) => Some(last_of(
+        Some(value) => Some(last_write_with(
             last,
             Write {
                 ts: next.ts,
@@ -134,7 +134,7 @@ fn with_record(last: Option<Write>, next: &Record, addr: WordAddr) -> Option<Wri
 }
 
 // The later one of the last write, if there is one, and another.
-fn last_of(last: Option<Write>, write: Write) -> Write
+fn last_write_with(last: Option<Write>, write: Write) -> Write
     ensures first { last ≡ None → result ≡ write }
     ensures after { (before : Write) → last ≡ Some before →
         IsSooner before.ts before.number result.ts result.number ×
@@ -143,12 +143,12 @@ fn last_of(last: Option<Write>, write: Write) -> Write
 {
     match last {
         None => write,
-        Some(before) => later(before, write),
+        Some(before) => later_write(before, write),
     }
 }
 
 // The later one of two writes.
-fn later(before: Write, write: Write) -> Write
+fn later_write(before: Write, write: Write) -> Write
     ensures after { IsSooner before.ts before.number result.ts result.number }
     ensures behind { IsSooner write.ts write.number result.ts result.number }
     ensures one { (result ≡ before) ⊎ (result ≡ write) }
@@ -162,7 +162,7 @@ fn later(before: Write, write: Write) -> Write
 }
 
 // What an operation writes to a word, if it does.
-fn written(op: &Op, addr: WordAddr) -> Option<u64>
+fn written_value(op: &Op, addr: WordAddr) -> Option<u64>
     ensures { result ≡ written op.now addr }
 {
     match op {

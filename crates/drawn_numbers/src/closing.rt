@@ -22,8 +22,8 @@ impl Numbers {
             ..
         } = self;
         let last = drawers.pop();
-        let mut seat = leave(last.unwrap(), &mut lists);
-        join_all(&table.shared, &mut seat, drawers, &mut lists);
+        let mut seat = close_drawer(last.unwrap(), &mut lists);
+        join_drawers(&table.shared, &mut seat, drawers, &mut lists);
         let closed = table.close_with(seat);
         closed.free();
         lists
@@ -31,7 +31,7 @@ impl Numbers {
 }
 
 // Joins drawers from the last to the first.
-fn join_all(
+fn join_drawers(
     table: &CounterTable,
     seat: &mut CounterSeat,
     mut drawers: Vec<Drawer>,
@@ -45,13 +45,13 @@ fn join_all(
     ensures lists { lists.new.items ≡ lists_filled drawers.items lists.old.items }
 {
     while let Some(drawer) = drawers.pop() {
-        let other = leave(drawer, lists);
+        let other = close_drawer(drawer, lists);
         join_view(table, seat, other);
     }
 }
 
 // Puts what a drawer drew at its number, and gives its seat at the table.
-fn leave(drawer: Drawer, lists: &mut Vec<Vec<u64>>) -> CounterSeat
+fn close_drawer(drawer: Drawer, lists: &mut Vec<Vec<u64>>) -> CounterSeat
     requires { drawer.number < length lists.old.items }
     ensures counter_seat { result ≡ drawer.seat }
     ensures list { lists.new.items ≡ slice_set lists.old.items drawer.number drawer.drawn }

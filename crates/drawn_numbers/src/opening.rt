@@ -14,14 +14,14 @@ pub fn open_numbers(alloc: Global, drawers: u32) -> Result<(Numbers, Vec<Drawer>
     ensures { IfOk result (λ r. (r.0.drawers ≡ drawers) × (length r.1.items ≡ drawers) ×
         AreNewDrawers r.0 r.1.items) }
 {
-    let (numbers, mut first) = open_table(alloc, drawers)?;
-    let mut all = open_others(alloc, &numbers, &mut first)?;
+    let (numbers, mut first) = open_counter_table(alloc, drawers)?;
+    let mut all = open_other_drawers(alloc, &numbers, &mut first)?;
     all.insert(0, new_drawer(alloc, first, 0))?;
     Ok((numbers, all))
 }
 
 // The table, with room for the lists, and the first seat.
-fn open_table(alloc: Global, drawers: u32) -> Result<(Numbers, CounterSeat), AllocError>
+fn open_counter_table(alloc: Global, drawers: u32) -> Result<(Numbers, CounterSeat), AllocError>
     requires { (0 < drawers) × (drawers ≤ 16) }
     ensures { IfOk result (λ r. (r.0.drawers ≡ drawers) × HasMade r.0 1 r.1) }
 {
@@ -39,7 +39,7 @@ fn open_table(alloc: Global, drawers: u32) -> Result<(Numbers, CounterSeat), All
 }
 
 // All drawers but the first.
-fn open_others(
+fn open_other_drawers(
     alloc: Global,
     numbers: &Numbers,
     first: &mut CounterSeat,

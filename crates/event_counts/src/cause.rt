@@ -25,7 +25,7 @@ pub enum Cause {
 }
 
 // The cause of an operation whose line has no copy, by how the core lost its last one.
-fn cause_without(lost: Option<Cause>) -> Cause
+fn cause_without_copy(lost: Option<Cause>) -> Cause
     ensures { result ≡ cause_without lost }
 {
     match lost {
@@ -46,7 +46,7 @@ fn cause_on_copy(op: &Op) -> Cause
 }
 
 // The cause of a core's open operation.
-fn cause_open(lost: &LostCopies, number: u32, core: &Core) -> Cause
+fn cause_of_open_op(lost: &LostCopies, number: u32, core: &Core) -> Cause
     ensures { result ≡ cause_open lost.now.lost number core.now core.now.open_op }
 {
     let Some((op, _)) = core.open_op() else {
@@ -54,7 +54,7 @@ fn cause_open(lost: &LostCopies, number: u32, core: &Core) -> Cause
     };
     let line = core.line_of(op);
     match core.copy(line) {
-        None => cause_without(lost.loss(number, line)),
+        None => cause_without_copy(lost.loss(number, line)),
         Some(_) => cause_on_copy(&op),
     }
 }
@@ -65,6 +65,6 @@ pub(crate) fn cause_of<K: History>(lost: &LostCopies, system: &System<K>, core: 
 {
     match system.core(core) {
         None => Cause::Cold,
-        Some(state) => cause_open(lost, core, state),
+        Some(state) => cause_of_open_op(lost, core, state),
     }
 }

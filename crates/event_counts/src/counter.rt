@@ -6,7 +6,7 @@ ghost use Rattle.event_counts.specs.Counting.{HasRoom, IsReady, counted_on, coun
 ghost use Rattle.event_counts.specs.Counting.{is_row, no_counter};
 
 use crate::event_counts::EventCounts;
-use crate::lost_copies::{LostCopies, at_risk};
+use crate::lost_copies::{LostCopies, copy_at_risk};
 use crate::row_list::RowList;
 use interleaving_core::{Event, History, PlainAnswer, System};
 use network::{LineNo, Message, MsgNo, Node};
@@ -102,8 +102,8 @@ impl Counter {
     {
         self.lost.reserve()?;
         self.rows.reserve(&self.counts)?;
-        self.to = goes_to(system, event);
-        self.copy = at_risk(system, event);
+        self.to = receiver_of_delivery(system, event);
+        self.copy = copy_at_risk(system, event);
         Ok(())
     }
 
@@ -121,12 +121,17 @@ impl Counter {
             self.new.seen ≡ counter_seen self.old.seen before event.now
             (answer_in system.now.records plain.now) system.now }
     {
-        self.count(system, event, plain);
+        self.count_event(system, event, plain);
     }
 
     // Counts an event by what is noted of it.
     #[inline(always)]
-    fn count<K: History>(&mut self, system: &System<K>, event: &Event, plain: &Option<PlainAnswer>)
+    fn count_event<K: History>(
+        &mut self,
+        system: &System<K>,
+        event: &Event,
+        plain: &Option<PlainAnswer>,
+    )
         requires room { HasRoom self.old }
         ensures { self.new.seen ≡ counted_on self.old.seen self.old.to self.old.copy event.now
             (answer_in system.now.records plain.now) system.now }
@@ -135,14 +140,14 @@ impl Counter {
         self.counts
             .see(&self.lost, self.to, system, event, plain, sent);
         self.lost.see(self.copy, event, system);
-        if is_row(self.every, system, plain) {
+        if is_row_due(self.every, system, plain) {
             self.rows.push(&self.counts);
         }
     }
 }
 
 // The node that a message goes to.
-fn end_of(message: Option<&Message>) -> Option<Node>
+fn receiver_of_message(message: Option<&Message>) -> Option<Node>
     ensures { result ≡ end_of (option_copied message.entry) }
 {
     match message {
@@ -152,17 +157,21 @@ fn end_of(message: Option<&Message>) -> Option<Node>
 }
 
 // The node that a delivery's message goes to.
-fn goes_to<K: History>(system: &System<K>, event: &Event) -> Option<Node>
+fn receiver_of_delivery<K: History>(system: &System<K>, event: &Event) -> Option<Node>
     ensures { result ≡ goes_to system.now event.now }
 {
     match event {
-        Event::Deliver(number) => end_of(system.look(*number)),
+        Event::Deliver(number) => receiver_of_message(system.look(*number)),
         _ => None,
     }
 }
 
 // Whether an answer of a machine completes an operation, and there is to be a row after it.
-fn is_row<K: History>(every: Option<u64>, system: &System<K>, plain: &Option<PlainAnswer>) -> bool
+fn is_row_due<K: History>(
+    every: Option<u64>,
+    system: &System<K>,
+    plain: &Option<PlainAnswer>,
+) -> bool
     ensures { result ≡ is_row every (length system.now.records)
         (answer_in system.now.records plain.now) }
 {

@@ -11,7 +11,7 @@ ghost use Rattle.event_counts.specs.Counting.{FitsIn, answered, evicted, reloade
 ghost use Rattle.event_counts.specs.Counting.{reloaded_at, requested, returned_by, seen, with_message};
 
 use crate::cause::{Cause, cause_of};
-use crate::kind_counts::more;
+use crate::kind_counts::increment_count;
 use crate::lost_copies::{LostCopies, has_copy};
 use crate::part_counts::{CoreCounts, Happening, PartCounts};
 use interleaving_core::{Event, History, PlainAnswer, System};
@@ -107,7 +107,7 @@ impl EventCounts {
         ensures { self.new ≡ seen self.old lost.now.lost to event.now
             (answer_in system.now.records plain.now) system.now (option_copied message.entry) }
     {
-        self.events = more(self.events);
+        self.events = increment_count(self.events);
         self.see_answer(lost, to, system, event, plain);
         self.see_sent_by(system, event, message);
     }
@@ -142,17 +142,17 @@ impl EventCounts {
             self.new ≡ answered self.old lost to event (answer_in system.now.records None) after }
     {
         if let Some(done) = system.last_record() {
-            self.complete(done);
+            self.count_completion(done);
         }
     }
 
     // Counts an operation that completes.
-    fn complete(&mut self, done: &Record)
+    fn count_completion(&mut self, done: &Record)
         ensures { self.new ≡ at_core self.old done.now.core (completed done.now) }
     {
         let core = done.core as usize;
         if core < self.cores.len() {
-            self.cores[core].complete(done);
+            self.cores[core].count_completion(done);
         }
     }
 
@@ -180,8 +180,11 @@ impl EventCounts {
         ensures { self.new ≡ evicted self.old event.now }
     {
         match event {
-            Event::EvictCache(core, _) => self.add_at(Node::Core(*core), &Happening::Evicted),
-            Event::EvictBank(bank, _) => self.add_at(Node::Bank(*bank), &Happening::Evicted),
+            Event::EvictCache(core, _) => self.count_at_node(
+                Node::Core(*core),
+                &Happening::Evicted,
+            ),
+            Event::EvictBank(bank, _) => self.count_at_node(Node::Bank(*bank), &Happening::Evicted),
             _ => (),
         }
     }
@@ -190,9 +193,9 @@ impl EventCounts {
     fn see_held(&mut self, to: Option<Node>)
         ensures { self.new ≡ held self.old to }
     {
-        self.held = more(self.held);
+        self.held = increment_count(self.held);
         if let Some(to) = to {
-            self.add_at(to, &Happening::Held);
+            self.count_at_node(to, &Happening::Held);
         }
     }
 
@@ -200,40 +203,40 @@ impl EventCounts {
     fn see_dropped(&mut self, to: Option<Node>)
         ensures { self.new ≡ dropped self.old to }
     {
-        self.dropped = more(self.dropped);
+        self.dropped = increment_count(self.dropped);
         if let Some(to) = to {
-            self.add_at(to, &Happening::Dropped);
+            self.count_at_node(to, &Happening::Dropped);
         }
     }
 
     // Something happens at a node.
-    fn add_at(&mut self, node: Node, what: &Happening)
+    fn count_at_node(&mut self, node: Node, what: &Happening)
         ensures { self.new ≡ at_node self.old node (with_happening what.now) }
     {
         match node {
-            Node::Core(core) => self.add_at_core(core, what),
-            Node::Bank(bank) => self.add_at_bank(bank, what),
+            Node::Core(core) => self.count_at_core(core, what),
+            Node::Bank(bank) => self.count_at_bank(bank, what),
             Node::Dram(_) => (),
         }
     }
 
     // Something happens at a core.
-    fn add_at_core(&mut self, core: u32, what: &Happening)
+    fn count_at_core(&mut self, core: u32, what: &Happening)
         ensures { self.new ≡ at_core self.old core (in_part (with_happening what.now)) }
     {
         let at = core as usize;
         if at < self.cores.len() {
-            self.cores[at].part.add(what);
+            self.cores[at].part.count_happening(what);
         }
     }
 
     // Something happens at a bank.
-    fn add_at_bank(&mut self, bank: u32, what: &Happening)
+    fn count_at_bank(&mut self, bank: u32, what: &Happening)
         ensures { self.new ≡ at_bank self.old bank (with_happening what.now) }
     {
         let at = bank as usize;
         if at < self.banks.len() {
-            self.banks[at].add(what);
+            self.banks[at].count_happening(what);
         }
     }
 
@@ -257,52 +260,52 @@ impl EventCounts {
         ensures { self.new ≡ with_message self.old system.now event.now (Some message.now) }
     {
         self.see_sent(message);
-        self.see_words(system, message);
+        self.see_reloaded_words(system, message);
         if let Event::EvictCache(core, _) = event {
-            self.see_returned(*core, &message.body);
+            self.see_returned_line(*core, &message.body);
         }
     }
 
     // A core that evicts a copy sends a message.
-    fn see_returned(&mut self, core: u32, body: &Body)
+    fn see_returned_line(&mut self, core: u32, body: &Body)
         ensures { self.new ≡ returned_by self.old core body.now }
     {
         match body {
-            Body::FlushRep(_) => self.return_line(core),
-            Body::WbRep(_) => self.return_line(core),
+            Body::FlushRep(_) => self.count_returned_line(core),
+            Body::WbRep(_) => self.count_returned_line(core),
             _ => (),
         }
     }
 
     // A core's eviction returns the line.
-    fn return_line(&mut self, core: u32)
+    fn count_returned_line(&mut self, core: u32)
         ensures { self.new ≡ at_core self.old core returned_line }
     {
         let at = core as usize;
         if at < self.cores.len() {
-            self.cores[at].return_line();
+            self.cores[at].count_returned_line();
         }
     }
 
     // Counts words that are sent to a core that has a copy of their line.
-    fn see_words<K: History>(&mut self, system: &System<K>, message: &Message)
+    fn see_reloaded_words<K: History>(&mut self, system: &System<K>, message: &Message)
         ensures { self.new ≡ reloaded self.old system.now message.now.to message.now.line
             message.now.body }
     {
         if let Node::Core(core) = message.to {
             if let Body::ShRep(_) = message.body {
-                self.reload(system, core, message.line);
+                self.count_reload(system, core, message.line);
             }
         }
     }
 
     // Words of a line are sent to a core.
-    fn reload<K: History>(&mut self, system: &System<K>, core: u32, line: LineNo)
+    fn count_reload<K: History>(&mut self, system: &System<K>, core: u32, line: LineNo)
         ensures { self.new ≡ reloaded_at self.old system.now core line }
     {
         let at = core as usize;
         if has_copy(system, core, line) && at < self.cores.len() {
-            self.cores[at].reload();
+            self.cores[at].count_reload();
         }
     }
 
@@ -310,9 +313,9 @@ impl EventCounts {
     fn see_sent(&mut self, message: &Message)
         ensures { self.new ≡ sent self.old message.now }
     {
-        self.next = more(self.next);
-        self.add_at(message.from, &Happening::Sent(&message.body));
-        self.add_at(message.to, &Happening::Sent(&message.body));
+        self.next = increment_count(self.next);
+        self.count_at_node(message.from, &Happening::Sent(&message.body));
+        self.count_at_node(message.to, &Happening::Sent(&message.body));
     }
 
     /// The counts of the cores, by number.

@@ -43,31 +43,31 @@ impl KindCounts {
     };
 
     /// One more message with this body.
-    pub(crate) fn add(&mut self, body: &Body)
+    pub(crate) fn count_message(&mut self, body: &Body)
         ensures { self.new ≡ with_kind self.old body.now }
     {
         match body {
-            Body::ShReq { .. } => self.sh_req = more(self.sh_req),
-            Body::ExReq { .. } => self.ex_req = more(self.ex_req),
-            Body::ShRep(_) => self.sh_rep = more(self.sh_rep),
-            Body::ExRep(_) => self.ex_rep = more(self.ex_rep),
-            Body::RenewRep { .. } => self.renew_rep = more(self.renew_rep),
-            Body::UpgradeRep { .. } => self.upgrade_rep = more(self.upgrade_rep),
-            Body::FlushReq => self.flush_req = more(self.flush_req),
-            Body::WbReq { .. } => self.wb_req = more(self.wb_req),
-            Body::FlushRep(_) => self.flush_rep = more(self.flush_rep),
-            Body::WbRep(_) => self.wb_rep = more(self.wb_rep),
-            Body::DramLd => self.dram_ld = more(self.dram_ld),
-            Body::DramLdRep(_) => self.dram_ld_rep = more(self.dram_ld_rep),
-            Body::DramSt(_) => self.dram_st = more(self.dram_st),
-            Body::DramStRep => self.dram_st_rep = more(self.dram_st_rep),
+            Body::ShReq { .. } => self.sh_req = increment_count(self.sh_req),
+            Body::ExReq { .. } => self.ex_req = increment_count(self.ex_req),
+            Body::ShRep(_) => self.sh_rep = increment_count(self.sh_rep),
+            Body::ExRep(_) => self.ex_rep = increment_count(self.ex_rep),
+            Body::RenewRep { .. } => self.renew_rep = increment_count(self.renew_rep),
+            Body::UpgradeRep { .. } => self.upgrade_rep = increment_count(self.upgrade_rep),
+            Body::FlushReq => self.flush_req = increment_count(self.flush_req),
+            Body::WbReq { .. } => self.wb_req = increment_count(self.wb_req),
+            Body::FlushRep(_) => self.flush_rep = increment_count(self.flush_rep),
+            Body::WbRep(_) => self.wb_rep = increment_count(self.wb_rep),
+            Body::DramLd => self.dram_ld = increment_count(self.dram_ld),
+            Body::DramLdRep(_) => self.dram_ld_rep = increment_count(self.dram_ld_rep),
+            Body::DramSt(_) => self.dram_st = increment_count(self.dram_st),
+            Body::DramStRep => self.dram_st_rep = increment_count(self.dram_st_rep),
         }
     }
 }
 
 /// One more; at its greatest value, 2^64 - 1, a count stays.
 #[inline(always)]
-pub(crate) fn more(count: u64) -> u64
+pub(crate) fn increment_count(count: u64) -> u64
     ensures { result ≡ more count }
 {
     if count < u64::MAX { count + 1 } else { count }

@@ -34,7 +34,7 @@ impl Model for LostCopies {
 
 // The number that stands for a core and a line.
 #[inline(always)]
-fn key_of(core: u32, line: LineNo) -> u128
+fn key_of_copy(core: u32, line: LineNo) -> u128
     ensures { result ≡ key_of core line }
 {
     line.0 as u128 * 0x1_0000_0000 + core as u128
@@ -54,7 +54,7 @@ impl LostCopies {
     pub(crate) fn loss(&self, core: u32, line: LineNo) -> Option<Cause>
         ensures { result ≡ loss self.now.lost core line }
     {
-        self.hash.get(&key_of(core, line)).copied()
+        self.hash.get(&key_of_copy(core, line)).copied()
     }
 
     /// Makes room for one more copy.
@@ -70,7 +70,7 @@ impl LostCopies {
         requires { 0 < self.old.room }
         ensures { self.new.lost ≡ with_loss self.old.lost core line why }
     {
-        let stored: Result<_, _> = self.hash.insert(key_of(core, line), why);
+        let stored: Result<_, _> = self.hash.insert(key_of_copy(core, line), why);
         let _before = stored.unwrap();
     }
 
@@ -89,13 +89,13 @@ impl LostCopies {
             return;
         };
         if !has_copy(system, core, line) {
-            self.note_loss(core, line, taken_by(event));
+            self.note_loss(core, line, cause_of_loss(event));
         }
     }
 }
 
 // How an event takes a copy.
-fn taken_by(event: &Event) -> Cause
+fn cause_of_loss(event: &Event) -> Cause
     ensures { result ≡ taken_by event.now }
 {
     match event {
@@ -126,7 +126,7 @@ fn copy_at<K: History>(system: &System<K>, core: u32, line: LineNo) -> Option<(u
 }
 
 // The copy of a line at a node, if that is a core that has one.
-fn copy_for<K: History>(system: &System<K>, line: LineNo, to: Node) -> Option<(u32, LineNo)>
+fn copy_at_node<K: History>(system: &System<K>, line: LineNo, to: Node) -> Option<(u32, LineNo)>
     ensures { result ≡ copy_for system.now line to }
 {
     match to {
@@ -136,22 +136,25 @@ fn copy_for<K: History>(system: &System<K>, line: LineNo, to: Node) -> Option<(u
 }
 
 // The copy of a message's line at its core.
-fn copy_under<K: History>(system: &System<K>, message: Option<&Message>) -> Option<(u32, LineNo)>
+fn copy_of_message_line<K: History>(
+    system: &System<K>,
+    message: Option<&Message>,
+) -> Option<(u32, LineNo)>
     ensures { result ≡ copy_under system.now (option_copied message.entry) }
 {
     match message {
         None => None,
-        Some(message) => copy_for(system, message.line, message.to),
+        Some(message) => copy_at_node(system, message.line, message.to),
     }
 }
 
 /// The copy that an event may take, if it is there before it: its core and its line.
-pub(crate) fn at_risk<K: History>(system: &System<K>, event: &Event) -> Option<(u32, LineNo)>
+pub(crate) fn copy_at_risk<K: History>(system: &System<K>, event: &Event) -> Option<(u32, LineNo)>
     ensures { result ≡ at_risk system.now event.now }
 {
     match event {
         Event::EvictCache(core, line) => copy_at(system, *core, *line),
-        Event::Deliver(number) => copy_under(system, system.look(*number)),
+        Event::Deliver(number) => copy_of_message_line(system, system.look(*number)),
         _ => None,
     }
 }

@@ -4,7 +4,7 @@ ghost use Rattle.event_counts.specs.Counts.{asked, completed, reloaded_line, ret
 ghost use Rattle.event_counts.specs.Counts.{with_end, with_happening, with_op};
 
 use crate::cause::Cause;
-use crate::kind_counts::{KindCounts, more};
+use crate::kind_counts::{KindCounts, increment_count};
 use network::Body;
 use physiological_order::{Op, Record};
 
@@ -44,14 +44,14 @@ impl PartCounts {
     };
 
     // This happens at the part.
-    pub(crate) fn add(&mut self, what: &Happening)
+    pub(crate) fn count_happening(&mut self, what: &Happening)
         ensures { self.new ≡ with_happening what.now self.old }
     {
         match what {
-            Happening::Evicted => self.evictions = more(self.evictions),
-            Happening::Held => self.held = more(self.held),
-            Happening::Dropped => self.dropped = more(self.dropped),
-            Happening::Sent(body) => self.sent.add(body),
+            Happening::Evicted => self.evictions = increment_count(self.evictions),
+            Happening::Held => self.held = increment_count(self.held),
+            Happening::Dropped => self.dropped = increment_count(self.dropped),
+            Happening::Sent(body) => self.sent.count_message(body),
         }
     }
 }
@@ -103,36 +103,36 @@ impl CoreCounts {
     };
 
     // One more operation of its kind.
-    fn add_op(&mut self, op: &Op)
+    fn count_operation(&mut self, op: &Op)
         ensures { self.new ≡ with_op self.old op.now }
     {
         match *op {
-            Op::Load(_) => self.loads = more(self.loads),
-            Op::Store(_, _) => self.stores = more(self.stores),
-            Op::Swap(_, _) => self.swaps = more(self.swaps),
+            Op::Load(_) => self.loads = increment_count(self.loads),
+            Op::Store(_, _) => self.stores = increment_count(self.stores),
+            Op::Swap(_, _) => self.swaps = increment_count(self.swaps),
         }
     }
 
     // One more hit, or one more miss of the cause that was noted.
-    fn add_end(&mut self)
+    fn count_hit_or_miss(&mut self)
         ensures { self.new ≡ with_end self.old self.old.asked }
     {
         match self.asked {
-            None => self.hits = more(self.hits),
-            Some(Cause::Cold) => self.cold = more(self.cold),
-            Some(Cause::Evicted) => self.evicted = more(self.evicted),
-            Some(Cause::Recalled) => self.recalled = more(self.recalled),
-            Some(Cause::Ended) => self.ended = more(self.ended),
-            Some(Cause::Shared) => self.shared = more(self.shared),
+            None => self.hits = increment_count(self.hits),
+            Some(Cause::Cold) => self.cold = increment_count(self.cold),
+            Some(Cause::Evicted) => self.evicted = increment_count(self.evicted),
+            Some(Cause::Recalled) => self.recalled = increment_count(self.recalled),
+            Some(Cause::Ended) => self.ended = increment_count(self.ended),
+            Some(Cause::Shared) => self.shared = increment_count(self.shared),
         }
     }
 
     // An operation completes.
-    pub(crate) fn complete(&mut self, done: &Record)
+    pub(crate) fn count_completion(&mut self, done: &Record)
         ensures { self.new ≡ completed done.now self.old }
     {
-        self.add_end();
-        self.add_op(&done.op);
+        self.count_hit_or_miss();
+        self.count_operation(&done.op);
         self.asked = None;
         self.last_time = self.last_time.max(done.ts);
     }
@@ -147,16 +147,16 @@ impl CoreCounts {
     }
 
     // An eviction returns its line.
-    pub(crate) fn return_line(&mut self)
+    pub(crate) fn count_returned_line(&mut self)
         ensures { self.new ≡ returned_line self.old }
     {
-        self.returns = more(self.returns);
+        self.returns = increment_count(self.returns);
     }
 
     // Words are sent to the core, which has a copy of their line.
-    pub(crate) fn reload(&mut self)
+    pub(crate) fn count_reload(&mut self)
         ensures { self.new ≡ reloaded_line self.old }
     {
-        self.reloads = more(self.reloads);
+        self.reloads = increment_count(self.reloads);
     }
 }

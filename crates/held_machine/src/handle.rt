@@ -42,5 +42,5 @@ pub fn put_back(handle: &mut Handle, system: Box<System>)
         is_open: 1,
     };
     let Handle { owner, is_open: _ } = mem::replace(handle, full);
-    owner.let_go();
+    owner.drop_empty();
 }

@@ -56,7 +56,7 @@ impl Owner {
     }
 
     /// Lets an owner of nothing go. An owner that has a machine can't be let go: it has no `Drop`.
-    pub(crate) fn let_go(self)
+    pub(crate) fn drop_empty(self)
         requires { self.held ≡ None }
     {
         let Owner { at: _, alloc: _ } = self;

@@ -22,14 +22,14 @@ fn finds_no_place<T>(answer: &Answer<T>) -> bool
 }
 
 // Whether a held message is passed.
-fn is_passed<T>(answer: &Answer<T>) -> bool
+fn is_message_passed<T>(answer: &Answer<T>) -> bool
     ensures { result ≡ (stays_held answer.now || finds_no_place answer.now) }
 {
     matches!(answer, Answer::Held | Answer::Refused(Refusal::Full))
 }
 
 // The answer, or a refusal of a message that is to be held and for which there is no place.
-fn fitted<T: Drop>(places: u32, answer: Answer<T>) -> Answer<T>
+fn answer_unless_full<T: Drop>(places: u32, answer: Answer<T>) -> Answer<T>
     ensures { result ≡ fitted places answer }
 {
     match answer {
@@ -46,11 +46,11 @@ fn deliver_to_part<T: Drop, P: Receiver<T>>(part: &mut P, message: &T, places: u
     ensures quiet { is_quiet result ≡ true → part.new ≡ part.old }
 {
     let answer = part.deliver(message, places);
-    fitted(places, answer)
+    answer_unless_full(places, answer)
 }
 
 // Puts a message that was sent, if any, at the end of the held list.
-fn push_sent<T: Drop>(held: &mut Queue<T>, sent: Option<T>)
+fn push_sent_to_held<T: Drop>(held: &mut Queue<T>, sent: Option<T>)
     requires place { length (values_of held.old) + length (sent_list sent) ≤ 256 }
     ensures after { values_of held.new ≡ values_of held.old ++ sent_list sent }
 {
@@ -86,7 +86,7 @@ fn deliver_held<T: Drop, P: Receiver<T>>(held: &Queue<T>, part: &mut P) -> Walk<
             };
         };
         let answer = deliver_to_part(part, held.get(cell), places);
-        if !is_passed(&answer) {
+        if !is_message_passed(&answer) {
             return Walk {
                 found: Some((cell, answer)),
                 refused,
@@ -102,7 +102,10 @@ fn deliver_held<T: Drop, P: Receiver<T>>(held: &Queue<T>, part: &mut P) -> Walk<
 }
 
 // Puts the held list right after the answer to the message of a cell.
-fn settle_held<T: Drop>(held: &mut Queue<T>, found: (Cell, Answer<T>)) -> Result<Served, Refusal>
+fn apply_held_answer<T: Drop>(
+    held: &mut Queue<T>,
+    found: (Cell, Answer<T>),
+) -> Result<Served, Refusal>
     requires cell { (k : ℕ) × (m : T) × (drop k (held.old)
         ≡ (found.0, m) ∷ drop (k + 1) (held.old)) }
     requires fits { length (values_of held.old) + needs found.1 ≤ 257 }
@@ -115,7 +118,7 @@ fn settle_held<T: Drop>(held: &mut Queue<T>, found: (Cell, Answer<T>)) -> Result
     match answer {
         Answer::Delivered(sent) => {
             drop(held.take(cell));
-            push_sent(held, sent);
+            push_sent_to_held(held, sent);
             Ok(Served::Delivered)
         }
         Answer::Dropped => {
@@ -123,7 +126,7 @@ fn settle_held<T: Drop>(held: &mut Queue<T>, found: (Cell, Answer<T>)) -> Result
             Ok(Served::Dropped)
         }
         Answer::Started(sent) => {
-            push_sent(held, sent);
+            push_sent_to_held(held, sent);
             Ok(Served::Started)
         }
         Answer::Held => Ok(Served::Held),
@@ -151,7 +154,7 @@ impl<T: Drop> Inbox<T> {
         if finds_no_place(&answer) {
             return self.serve_held(true, part);
         }
-        self.settle_hand(answer)
+        self.apply_hand_answer(answer)
     }
 
     // Serves the held messages. `refused` says whether the one in the hand found no place.
@@ -161,7 +164,7 @@ impl<T: Drop> Inbox<T> {
     {
         let walk = deliver_held(&self.held, part);
         match walk.found {
-            Some(found) => settle_held(&mut self.held, found),
+            Some(found) => apply_held_answer(&mut self.held, found),
             None => self.none_served(refused || walk.refused),
         }
     }
@@ -180,7 +183,7 @@ impl<T: Drop> Inbox<T> {
     }
 
     // Puts the messages right after the answer to the one in the hand.
-    fn settle_hand(&mut self, answer: Answer<T>) -> Result<Served, Refusal>
+    fn apply_hand_answer(&mut self, answer: Answer<T>) -> Result<Served, Refusal>
         requires hand { IsSome self.old.hand }
         requires fits { length self.old.held + needs answer ≤ 256 }
         ensures result { result ≡ result_of answer }
@@ -190,7 +193,7 @@ impl<T: Drop> Inbox<T> {
         match answer {
             Answer::Delivered(sent) => {
                 self.hand = None;
-                push_sent(&mut self.held, sent);
+                push_sent_to_held(&mut self.held, sent);
                 Ok(Served::Delivered)
             }
             Answer::Dropped => {
@@ -199,7 +202,7 @@ impl<T: Drop> Inbox<T> {
             }
             Answer::Started(sent) => {
                 self.hold_hand();
-                push_sent(&mut self.held, sent);
+                push_sent_to_held(&mut self.held, sent);
                 Ok(Served::Started)
             }
             Answer::Held => {

@@ -5,8 +5,8 @@ ghost use Rattle.mailboxes.specs.Attempts.{Asks, Attempts, AttemptsSo, Tries, se
 ghost use Rattle.mailboxes.specs.CoreCalls.{SamePlace};
 ghost use Rattle.mailboxes.specs.Seats.{IsCoreSeat};
 
-use crate::changes::change_core;
-use crate::completions::finish;
+use crate::changes::change_core_hold;
+use crate::completions::complete_operation;
 use crate::core_seat::CoreSeat;
 use crate::machine::Machine;
 use crate::outcome::{Completion, Outcome};
@@ -19,7 +19,7 @@ use seat_rule::parts::messages_of_seats_find_their_parts;
 use timestamp_manager::Exhausted;
 
 // What an attempt comes to by the core's table. The core is changed only if the operation is completed.
-fn try_open(core: &mut Core) -> Outcome
+fn attempt_core_operation(core: &mut Core) -> Outcome
     ensures outcome { result ≡ tried core.old }
     ensures core { Tries core.old result core.new }
 {
@@ -54,7 +54,7 @@ fn try_open(core: &mut Core) -> Outcome
 }
 
 // The record of a completed operation.
-fn record_of(core: u32, done: &Completion, number: u64) -> Record
+fn record_of_completion(core: u32, done: &Completion, number: u64) -> Record
     ensures { result ≡ record {
       core = core;
       place = done.now.place;
@@ -107,7 +107,7 @@ impl CoreSeat {
         ensures attempt { Attempts machine.now self.old result self.new }
         ensures sure { result ≢ Answer.Refused Refusal.NoMemory }
     {
-        match try_open(&mut self.part.core) {
+        match attempt_core_operation(&mut self.part.core) {
             Outcome::Keeps(answer) => answer,
             Outcome::Exhausts => {
                 self.is_stopped = true;
@@ -116,7 +116,7 @@ impl CoreSeat {
             Outcome::Requests(request) => self.send_request(machine, request),
             Outcome::Completes(done) => {
                 let word = machine.table.slot_count();
-                let number = finish(
+                let number = complete_operation(
                     &machine.table.shared,
                     &mut self.mail.seat,
                     word,
@@ -125,9 +125,9 @@ impl CoreSeat {
                     done.ts,
                     &self.part.core,
                 );
-                let record = record_of(self.mail.number, &done, number);
+                let record = record_of_completion(self.mail.number, &done, number);
                 self.records.push_reserved(record);
-                Answer::Completed(record_of(self.mail.number, &done, number))
+                Answer::Completed(record_of_completion(self.mail.number, &done, number))
             }
         }
     }
@@ -147,7 +147,7 @@ impl CoreSeat {
         }
         self.part.core.requested();
         self.part.outbox.send(request);
-        change_core(
+        change_core_hold(
             machine,
             &mut self.mail.seat,
             &self.part,

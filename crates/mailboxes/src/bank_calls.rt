@@ -29,7 +29,7 @@ pub(crate) fn seat_refusal(refusal: inbox::Refusal) -> Refusal
 }
 
 // The line to evict to make room for a held message, if it is a request that waits for room.
-fn room_for(bank: &Bank, message: &Message) -> Option<LineNo>
+fn victim_for_request(bank: &Bank, message: &Message) -> Option<LineNo>
     ensures line { result ≡ room_for bank.now message.now }
     ensures evicted { IfSome result (λ victim. IsOk (evict bank.now victim).0) }
 {
@@ -52,7 +52,7 @@ impl MessageTest<Message> for RoomTest<'_> {
     ghost passes = { λ test message. is_some (room_for test.bank.now message) };
 
     fn passes(&self, message: &Message) -> bool {
-        room_for(self.bank, message).is_some()
+        victim_for_request(self.bank, message).is_some()
     }
 }
 
@@ -127,6 +127,6 @@ impl BankSeat {
         let message = self.mail.inbox.first_held(&RoomTest {
             bank: &self.part.bank,
         })?;
-        room_for(&self.part.bank, message)
+        victim_for_request(&self.part.bank, message)
     }
 }

@@ -9,7 +9,7 @@ ghost use Rattle.mailboxes.specs.BankCalls.{became, bank_evict_answer, evicted_i
 ghost use Rattle.mailboxes.specs.BankCalls.{to_post};
 ghost use Rattle.mailboxes.specs.PartServing.{finds_places, posted, told};
 
-use crate::part_serving::{finds_places, post};
+use crate::part_serving::{post_message, sending_finds_places};
 use crate::sending::SendingBank;
 use closed_machine::Outbox;
 use inbox::Inbox;
@@ -37,7 +37,7 @@ fn to_post(to: Option<Node>) -> Option<(Node, bool)>
 }
 
 /// Whether a line can be evicted: the bank's table does it, and what it sends finds its place.
-pub(crate) fn evictable(
+pub(crate) fn check_line_evictable(
     part: &SendingBank,
     came_in: &Inbox<Message>,
     line: LineNo,
@@ -52,7 +52,7 @@ pub(crate) fn evictable(
         Err(EvictError::NotHere) => Err(Refusal::NoSuch),
         Err(EvictError::Busy) => Err(Refusal::Busy),
         Ok(to) => {
-            if finds_places(false, &part.outbox, came_in.places(), &to_post(to)) {
+            if sending_finds_places(false, &part.outbox, came_in.places(), &to_post(to)) {
                 Ok(())
             } else {
                 Err(Refusal::NetworkFull)
@@ -62,7 +62,7 @@ pub(crate) fn evictable(
 }
 
 // Sends a message: to the outbox, or to the end of the held list.
-fn send(outbox: &mut Outbox, came_in: &mut Inbox<Message>, message: Message)
+fn send_for_eviction(outbox: &mut Outbox, came_in: &mut Inbox<Message>, message: Message)
     requires { IsTrue (finds_places false outbox.old (256 - length came_in.old.held)
         (Some (message.to, false))) }
     ensures sent { outbox.new ≡ posted false outbox.old message }
@@ -70,7 +70,7 @@ fn send(outbox: &mut Outbox, came_in: &mut Inbox<Message>, message: Message)
         inbox came_in.old.hand (came_in.old.held ++ sent_list (told false message)) }
 {
     let _body: Body = message.body;
-    if let Some(told) = post(false, outbox, &message) {
+    if let Some(told) = post_message(false, outbox, &message) {
         came_in.hold(told);
     }
 }
@@ -92,11 +92,11 @@ pub(crate) fn evict_line(
     match evicted.unwrap() {
         Evict::Clean => Eviction::Evicted,
         Evict::Stored(store) => {
-            send(&mut part.outbox, came_in, store);
+            send_for_eviction(&mut part.outbox, came_in, store);
             Eviction::Evicted
         }
         Evict::Recalled(recall) => {
-            send(&mut part.outbox, came_in, recall);
+            send_for_eviction(&mut part.outbox, came_in, recall);
             Eviction::Recalled
         }
     }

@@ -8,8 +8,8 @@ ghost use Rattle.mailboxes.specs.Stored.{stored_bank};
 ghost use Rattle.inbox.specs.Serving.{Serves};
 ghost use Rattle.inbox.specs.declared.answer.Refusal.TheVariants.{NoMemory};
 
-use crate::bank_evicting::{Eviction, evict_line, evictable};
-use crate::changes::{change_bank, change_bank_if, may_change};
+use crate::bank_evicting::{Eviction, check_line_evictable, evict_line};
+use crate::changes::{change_bank_hold, change_bank_hold_if, serving_may_change};
 use crate::machine::Machine;
 use crate::mailbox::Mailbox;
 use crate::part_serving::serve_part;
@@ -42,8 +42,8 @@ impl Mailbox {
         parts_of_seats_have_their_shape();
         let was_full = self.hand_is_full();
         let served = serve_part(&mut self.inbox, part);
-        let changes = may_change(was_full, &served);
-        change_bank_if(changes, machine, &mut self.seat, part, &self.inbox);
+        let changes = serving_may_change(was_full, &served);
+        change_bank_hold_if(changes, machine, &mut self.seat, part, &self.inbox);
         served
     }
 
@@ -67,11 +67,11 @@ impl Mailbox {
     {
         messages_of_seats_find_their_parts();
         parts_of_seats_have_their_shape();
-        if let Err(refusal) = evictable(part, &self.inbox, line) {
+        if let Err(refusal) = check_line_evictable(part, &self.inbox, line) {
             return Err(refusal);
         }
         let eviction = evict_line(part, &mut self.inbox, line);
-        change_bank(machine, &mut self.seat, part, &self.inbox);
+        change_bank_hold(machine, &mut self.seat, part, &self.inbox);
         Ok(eviction)
     }
 }

@@ -48,7 +48,7 @@ fn store_hold<C: StepChoice>(table: &SlotTable, seat: &mut SlotSeat, word: usize
 }
 
 /// Whether a serving changes anything, if the hand was full before, or empty.
-pub(crate) fn may_change(was_full: bool, served: &Result<Served, Refusal>) -> bool
+pub(crate) fn serving_may_change(was_full: bool, served: &Result<Served, Refusal>) -> bool
     ensures { result ≡ may_change was_full served.now }
 {
     match served {
@@ -60,7 +60,7 @@ pub(crate) fn may_change(was_full: bool, served: &Result<Served, Refusal>) -> bo
 
 /// What a core's seat holds becomes what it stores, if that is a move of the seat. If nothing changes, the call makes
 /// no exchange.
-pub(crate) fn change_core_if(
+pub(crate) fn change_core_hold_if(
     changes: bool,
     machine: &Machine,
     seat: &mut SlotSeat,
@@ -86,13 +86,13 @@ pub(crate) fn change_core_if(
         (stored_core seat.old.me.0.mine part.now issued.now.items inbox.now) }
 {
     if changes {
-        change_core(machine, seat, part, issued, inbox);
+        change_core_hold(machine, seat, part, issued, inbox);
     }
 }
 
 /// What a bank's seat holds becomes what it stores, if that is a move of the seat. If nothing changes, the call makes
 /// no exchange.
-pub(crate) fn change_bank_if(
+pub(crate) fn change_bank_hold_if(
     changes: bool,
     machine: &Machine,
     seat: &mut SlotSeat,
@@ -115,12 +115,12 @@ pub(crate) fn change_bank_if(
         seat.old.me.0.number (stored_bank seat.old.me.0.mine part.now inbox.now) }
 {
     if changes {
-        change_bank(machine, seat, part, inbox);
+        change_bank_hold(machine, seat, part, inbox);
     }
 }
 
 /// What a core's seat holds becomes what it stores, if that is a move of the seat.
-pub(crate) fn change_core(
+pub(crate) fn change_core_hold(
     machine: &Machine,
     seat: &mut SlotSeat,
     part: &SendingCore,
@@ -140,11 +140,11 @@ pub(crate) fn change_core(
         seat.old.me.0.number
         (stored_core seat.old.me.0.mine part.now issued.now.items inbox.now) }
 {
-    change::<Brand, SendingCore, Vec<Op>>(machine, seat, part, issued, inbox);
+    change_hold::<Brand, SendingCore, Vec<Op>>(machine, seat, part, issued, inbox);
 }
 
 /// What a bank's seat holds becomes what it stores, if that is a move of the seat.
-pub(crate) fn change_bank(
+pub(crate) fn change_bank_hold(
     machine: &Machine,
     seat: &mut SlotSeat,
     part: &SendingBank,
@@ -161,11 +161,11 @@ pub(crate) fn change_bank(
     ensures standing { Standing machine.now.set_up (seat_count machine.now.set_up)
         seat.old.me.0.number (stored_bank seat.old.me.0.mine part.now inbox.now) }
 {
-    change::<Brand, SendingBank, ()>(machine, seat, part, &(), inbox);
+    change_hold::<Brand, SendingBank, ()>(machine, seat, part, &(), inbox);
 }
 
 // What a seat holds becomes what the call picks by what the seat stores.
-fn change<C: StepChoice, P, I>(
+fn change_hold<C: StepChoice, P, I>(
     machine: &Machine,
     seat: &mut SlotSeat,
     part: &P,

@@ -14,7 +14,9 @@ use crate::machine::Machine;
 use crate::mailbox::Mailbox;
 use crate::sending::{SendingBank, SendingCore};
 use crate::steps::{SlotSeat, SlotTable, join_view};
-use closed_machine::{BankPart, ClosedMachine, CorePart, Run, empty_slots, merged};
+use closed_machine::{
+    BankPart, ClosedMachine, CorePart, Run, merge_core_records, take_slot_messages,
+};
 use seat_rule::laws::{closed_machines_are_one_state, links_lose_and_double_nothing};
 use std::alloc::{AllocError, Global};
 
@@ -39,8 +41,8 @@ impl Machine {
         ensures parts { IfOk result (λ r. PartsOfState self.set_up r.cores.items r.banks.items
             r.slots.items r.records.items) }
     {
-        let left = self.leave(alloc, cores, banks)?;
-        let records = merged(alloc, &left)?;
+        let left = self.close_seats(alloc, cores, banks)?;
+        let records = merge_core_records(alloc, &left)?;
         let ClosedMachine {
             set_up,
             cores,
@@ -58,7 +60,7 @@ impl Machine {
     }
 
     // What the machine and all its seats leave.
-    fn leave(
+    fn close_seats(
         self,
         alloc: Global,
         mut cores: Vec<CoreSeat>,
@@ -81,15 +83,15 @@ impl Machine {
         let Machine { table, set_up } = self;
         let first = cores.pop();
         let first = first.unwrap();
-        let mut seat = first.leave(&mut core_parts);
-        join(&table.shared, &mut seat, cores, &mut core_parts);
-        join(&table.shared, &mut seat, banks, &mut bank_parts);
+        let mut seat = first.leave_part(&mut core_parts);
+        join_seats(&table.shared, &mut seat, cores, &mut core_parts);
+        join_seats(&table.shared, &mut seat, banks, &mut bank_parts);
         core_parts.reverse();
         bank_parts.reverse();
         let last = table.slot_count();
         let closed = table.close_with(seat);
         let count = closed.word(last);
-        empty_slots(closed, &mut slots);
+        take_slot_messages(closed, &mut slots);
         Ok(ClosedMachine {
             set_up,
             cores: core_parts,
@@ -109,7 +111,7 @@ trait Leaver<Q> {
     ghost part: { Self → Q };
 
     // Puts what the seat stores at the end of a list, and gives its seat at the table.
-    fn leave(self, parts: &mut Vec<Q>) -> SlotSeat
+    fn leave_part(self, parts: &mut Vec<Q>) -> SlotSeat
         requires { length parts.old.items < vec_capacity parts.old }
         ensures slot_seat { result ≡ (mail self).seat }
         ensures part { parts.new.items ≡ parts.old.items ++ part self ∷ [] }
@@ -123,7 +125,7 @@ impl Leaver<CorePart> for CoreSeat {
 
     ghost part = { core_part };
 
-    fn leave(self, parts: &mut Vec<CorePart>) -> SlotSeat {
+    fn leave_part(self, parts: &mut Vec<CorePart>) -> SlotSeat {
         let CoreSeat {
             mail,
             part,
@@ -159,7 +161,7 @@ impl Leaver<BankPart> for BankSeat {
 
     ghost part = { bank_part };
 
-    fn leave(self, parts: &mut Vec<BankPart>) -> SlotSeat {
+    fn leave_part(self, parts: &mut Vec<BankPart>) -> SlotSeat {
         let BankSeat {
             mail,
             part,
@@ -186,7 +188,7 @@ impl Leaver<BankPart> for BankSeat {
 }
 
 // Joins seats from the last to the first.
-fn join<S: Leaver<Q> + Drop, Q: Drop>(
+fn join_seats<S: Leaver<Q> + Drop, Q: Drop>(
     table: &SlotTable,
     seat: &mut SlotSeat,
     mut seats: Vec<S>,
@@ -205,7 +207,7 @@ fn join<S: Leaver<Q> + Drop, Q: Drop>(
     ensures parts { parts.new.items ≡ parts.old.items ++ backwards S.part seats.items }
 {
     while let Some(port) = seats.pop() {
-        let other = port.leave(parts);
+        let other = port.leave_part(parts);
         join_view(table, seat, other);
     }
 }

@@ -63,7 +63,7 @@ impl<C: End> Play<Option<Message>, View<Hold>> for Finishes<C> {
 
 /// The open operation of the seat's core is completed, by the core's table, which leaves this core; answers the number
 /// of the record. `word` is the number of the word that counts completions.
-pub(crate) fn finish(
+pub(crate) fn complete_operation(
     table: &SlotTable,
     seat: &mut SlotSeat,
     word: usize,
@@ -83,10 +83,10 @@ pub(crate) fn finish(
     ensures finished { finished table.now.key (seat_count table.now.key) core.now op.now received ts
         seat.old.me result seat.new.me }
 {
-    finish_as::<Brand>(table, seat, word, op, received, ts, core)
+    complete_operation_as::<Brand>(table, seat, word, op, received, ts, core)
 }
 
-fn finish_as<C: End>(
+fn complete_operation_as<C: End>(
     table: &SlotTable,
     seat: &mut SlotSeat,
     word: usize,

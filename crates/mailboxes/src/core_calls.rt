@@ -9,7 +9,7 @@ ghost use Rattle.mailboxes.specs.BoxMoves.{hold};
 ghost use Rattle.mailboxes.specs.CoreCalls.{IssueAnswers, SamePlace, advance_answer, core_hold, issue_answer};
 ghost use Rattle.mailboxes.specs.Seats.{IsCoreSeat};
 
-use crate::changes::change_core;
+use crate::changes::change_core_hold;
 use crate::core_seat::CoreSeat;
 use crate::machine::Machine;
 use core_pts::Core;
@@ -18,7 +18,7 @@ use network::LineNo;
 use physiological_order::{Op, Record};
 
 // Makes room for one more in both lists; false if one of them is full and allocation failed.
-fn has_room(issued: &mut Vec<Op>, records: &mut Vec<Record>) -> bool
+fn make_room_for_operation(issued: &mut Vec<Op>, records: &mut Vec<Record>) -> bool
     ensures issued { (issued.new.items ≡ issued.old.items) ×
         (result ≡ true → length issued.new.items < vec_capacity issued.new) }
     ensures records { (records.new.items ≡ records.old.items) ×
@@ -86,14 +86,14 @@ impl CoreSeat {
             ⊎ (vec_capacity self.old.records ≤ length self.old.records.items) }
     {
         may_issue(self.is_stopped, &self.part.core)?;
-        if !has_room(&mut self.issued, &mut self.records) {
+        if !make_room_for_operation(&mut self.issued, &mut self.records) {
             return Err(Refusal::NoMemory);
         }
         let given = &op;
         let issued = self.part.core.issue(*given);
         issued.unwrap();
         self.issued.push_reserved(*given);
-        change_core(
+        change_core_hold(
             machine,
             &mut self.mail.seat,
             &self.part,
@@ -126,7 +126,7 @@ impl CoreSeat {
                 Err(Refusal::Exhausted)
             }
             Ok(()) => {
-                change_core(
+                change_core_hold(
                     machine,
                     &mut self.mail.seat,
                     &self.part,

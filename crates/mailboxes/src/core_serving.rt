@@ -11,7 +11,7 @@ ghost use Rattle.inbox.specs.Serving.{Serves};
 ghost use Rattle.inbox.specs.declared.answer.Refusal.TheVariants.{NoMemory};
 
 use crate::bank_calls::seat_refusal;
-use crate::changes::{change_core_if, may_change};
+use crate::changes::{change_core_hold_if, serving_may_change};
 use crate::core_seat::CoreSeat;
 use crate::machine::Machine;
 use crate::mailbox::Mailbox;
@@ -47,8 +47,8 @@ impl Mailbox {
         messages_of_seats_find_their_parts();
         let was_full = self.hand_is_full();
         let served = serve_part(&mut self.inbox, part);
-        let changes = may_change(was_full, &served);
-        change_core_if(changes, machine, &mut self.seat, part, issued, &self.inbox);
+        let changes = serving_may_change(was_full, &served);
+        change_core_hold_if(changes, machine, &mut self.seat, part, issued, &self.inbox);
         served
     }
 }

@@ -6,7 +6,7 @@ ghost use Rattle.mailboxes.specs.Seats.{IsCoreSeat};
 use crate::core_seat::CoreSeat;
 use crate::machine::Machine;
 use crate::taken::Take;
-use crate::turning::{Turn, Turner, turn_of};
+use crate::turning::{Turn, Turner, seat_turn};
 use inbox::Served;
 use machine_table::Refusal;
 
@@ -28,16 +28,16 @@ impl Turner for CoreSeat {
 
     ghost number = { core_number };
 
-    fn put_one(&mut self, machine: &Machine) -> bool {
+    fn put_message(&mut self, machine: &Machine) -> bool {
         self.put(machine)
     }
 
     #[inline(always)]
-    fn serve_one(&mut self, machine: &Machine) -> Result<Served, Refusal> {
+    fn serve_message(&mut self, machine: &Machine) -> Result<Served, Refusal> {
         self.serve(machine)
     }
 
-    fn take_one(&mut self, machine: &Machine) -> Take {
+    fn take_message(&mut self, machine: &Machine) -> Take {
         self.take(machine)
     }
 
@@ -45,7 +45,7 @@ impl Turner for CoreSeat {
         self.mail.hand_is_full()
     }
 
-    fn to_put(&self) -> u32 {
+    fn messages_to_put(&self) -> u32 {
         self.part.outbox.len()
     }
 }
@@ -64,6 +64,6 @@ impl CoreSeat {
         ensures within { IfOk result (λ turn. turn.put ≤ 256) }
         ensures memory { result ≢ Err Refusal.NoMemory }
     {
-        turn_of(self, machine)
+        seat_turn(self, machine)
     }
 }

@@ -30,13 +30,13 @@ pub fn incoming_slots(config: &Config, number: u32) -> Slots
     let count = incoming_count(config, number);
     Slots {
         count,
-        first: incoming(config, number, 0),
+        first: incoming_slot(config, number, 0),
         stride: incoming_stride(config, number),
     }
 }
 
 /// The number of the link from a seat to a node.
-pub fn link_to(config: &Config, number: u32, to: &Node) -> usize
+pub fn link_number_to(config: &Config, number: u32, to: &Node) -> usize
     requires good { is_good config.now ≡ true }
     requires number { number < config.now.cores + config.now.banks }
     requires link { has_link_to config.now.cores config.now.banks number to.now ≡ true }
@@ -55,7 +55,7 @@ pub fn link_to(config: &Config, number: u32, to: &Node) -> usize
 }
 
 /// The number of the core or bank that a seat has a link to.
-pub fn end_of(config: &Config, number: u32, to: &Node) -> usize
+pub fn link_end_number(config: &Config, number: u32, to: &Node) -> usize
     requires good { is_good config.now ≡ true }
     requires link { has_link_to config.now.cores config.now.banks number to.now ≡ true }
     ensures end { result ≡ end_of to.now }
@@ -116,7 +116,7 @@ fn incoming_link(config: &Config, number: u32, from: usize) -> usize
 }
 
 /// A slot that comes in to a seat, by its place among them.
-pub fn incoming(config: &Config, number: u32, place: usize) -> usize
+pub fn incoming_slot(config: &Config, number: u32, place: usize) -> usize
     requires good { is_good config.now ≡ true }
     requires number { number < config.now.cores + config.now.banks }
     requires place { place < incoming_count config.now.cores config.now.banks number }

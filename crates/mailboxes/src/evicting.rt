@@ -6,7 +6,7 @@ ghost use Rattle.mailboxes.specs.CoreCalls.{SameHold, SamePlace, sending_hold};
 ghost use Rattle.mailboxes.specs.Evictions.{TakesOut, core_evict_answer, evicted_by_core, is_sent_back};
 ghost use Rattle.mailboxes.specs.Seats.{IsCoreSeat};
 
-use crate::changes::change_core;
+use crate::changes::change_core_hold;
 use crate::core_seat::CoreSeat;
 use crate::machine::Machine;
 use crate::sending::SendingCore;
@@ -17,7 +17,7 @@ use private_cache::{CacheError, CopyState};
 use seat_rule::parts::messages_of_seats_find_their_parts;
 
 // Whether an eviction of a line's copy sends it back.
-fn sends_back(core: &Core, line: LineNo) -> bool
+fn eviction_returns_line(core: &Core, line: LineNo) -> bool
     ensures { result ≡ is_sent_back (core_table.evict core.now line).0 }
 {
     let Some(copy) = core.copy(line) else {
@@ -27,13 +27,13 @@ fn sends_back(core: &Core, line: LineNo) -> bool
 }
 
 // Takes the copy of a line out of the core, and sends it back, if the core owned it. An error changes nothing.
-fn take_out(part: &mut SendingCore, line: LineNo) -> Result<(), Refusal>
+fn evict_and_send_back(part: &mut SendingCore, line: LineNo) -> Result<(), Refusal>
     ensures answer { (result, part.new) ≡ evicted_by_core part.old line }
     ensures done { OnOk result (TakesOut part.old line part.new) }
     ensures refused { OnErr result (part.new ≡ part.old) }
 {
     if !part.outbox.can_send_out() {
-        if sends_back(&part.core, line) {
+        if eviction_returns_line(&part.core, line) {
             return Err(Refusal::NetworkFull);
         }
     }
@@ -71,8 +71,8 @@ impl CoreSeat {
             return Err(Refusal::Stopped);
         }
         messages_of_seats_find_their_parts();
-        take_out(&mut self.part, line)?;
-        change_core(
+        evict_and_send_back(&mut self.part, line)?;
+        change_core_hold(
             machine,
             &mut self.mail.seat,
             &self.part,

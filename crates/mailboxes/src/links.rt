@@ -6,10 +6,10 @@ ghost use Rattle.seat_rule.specs.Rule.{slot_count, source};
 ghost use Rattle.seat_rule.specs.Plays.{looking, ones};
 ghost use Rattle.mailboxes.specs.Places.{Belongs};
 
-use crate::steps::{SlotSeat, SlotTable, look_out};
+use crate::steps::{SlotSeat, SlotTable, look_at_outgoing_slot};
 
 /// The first slot of the link that is found empty, which is then out with the seat; all four are looked at if none is.
-pub fn find_free(table: &SlotTable, seat: &mut SlotSeat, link: usize) -> Option<usize>
+pub fn find_free_slot(table: &SlotTable, seat: &mut SlotSeat, link: usize) -> Option<usize>
     requires table { Belongs seat.old.table_id table.now.table_id table.now.key }
     requires link { (4 * link + 4 ≤ slot_count table.now.key) ×
         (slot_count table.now.key ≤ 4096) × (source table.now.key link ≡ seat.old.me.0.number) }
@@ -27,7 +27,7 @@ pub fn find_free(table: &SlotTable, seat: &mut SlotSeat, link: usize) -> Option<
 {
     for s in 0..4 {
         let slot = 4 * link + s;
-        if look_out(table, seat, slot) == 0 {
+        if look_at_outgoing_slot(table, seat, slot) == 0 {
             return Some(slot);
         }
     }

@@ -16,14 +16,14 @@ use inbox::{Answer, Inbox, Receiver, Refusal, Served};
 use network::{Message, Node, Part, PartError, Reaction};
 
 // Whether a message of the seat's part leaves the seat.
-fn leaves(is_core: bool, to: &Node) -> bool
+fn leaves_seat(is_core: bool, to: &Node) -> bool
     ensures { result ≡ leaves is_core to.now }
 {
     is_core || matches!(to, Node::Core(_))
 }
 
 // How many places of the held list are wanted.
-fn places_for(stays: bool, leaves: bool) -> u32
+fn held_places_wanted(stays: bool, leaves: bool) -> u32
     ensures { result ≡ places_for stays leaves }
 {
     match (stays, leaves) {
@@ -35,7 +35,7 @@ fn places_for(stays: bool, leaves: bool) -> u32
 }
 
 /// Whether what would be sent, if anything, and the delivered message find their places.
-pub(crate) fn finds_places(
+pub(crate) fn sending_finds_places(
     is_core: bool,
     outbox: &Outbox,
     places: u32,
@@ -46,50 +46,50 @@ pub(crate) fn finds_places(
     match sends {
         None => true,
         Some((to, stays)) => {
-            let leaves = leaves(is_core, to);
+            let leaves = leaves_seat(is_core, to);
             let can_go = if leaves {
                 outbox.can_send_out()
             } else {
                 outbox.can_send()
             };
-            can_go && places_for(*stays, leaves) <= places
+            can_go && held_places_wanted(*stays, leaves) <= places
         }
     }
 }
 
 /// Sends a message: one that leaves goes to the outbox, and the answer has any other.
-pub(crate) fn post(is_core: bool, outbox: &mut Outbox, message: &Message) -> Option<Message>
+pub(crate) fn post_message(is_core: bool, outbox: &mut Outbox, message: &Message) -> Option<Message>
     requires { (places : ℕ) × (stays : Bool) ×
         IsTrue (finds_places is_core outbox.old places (Some (message.now.to, stays))) }
     ensures told { result ≡ told is_core message.now }
     ensures posted { outbox.new ≡ posted is_core outbox.old message.now }
 {
-    if leaves(is_core, &message.to) {
+    if leaves_seat(is_core, &message.to) {
         outbox.send(*message);
         return None;
     }
-    outbox.note(message);
+    outbox.count_sent_to_held(message);
     Some(*message)
 }
 
 // Sends what a part sends, if anything, and answers what it did.
 #[inline(always)]
-fn answered(is_core: bool, outbox: &mut Outbox, reaction: &Reaction) -> Answer<Message>
+fn send_reaction(is_core: bool, outbox: &mut Outbox, reaction: &Reaction) -> Answer<Message>
     requires { (places : ℕ) × IsTrue (finds_places is_core outbox.old places (sent_in reaction.now)) }
     ensures answer { result ≡ (reaction_answer is_core outbox.old reaction.now).0 }
     ensures sent { outbox.new ≡ (reaction_answer is_core outbox.old reaction.now).1 }
 {
     match reaction {
         Reaction::Done(None) => Answer::Delivered(None),
-        Reaction::Done(Some(sent)) => Answer::Delivered(post(is_core, outbox, sent)),
+        Reaction::Done(Some(sent)) => Answer::Delivered(post_message(is_core, outbox, sent)),
         Reaction::Dropped => Answer::Dropped,
         Reaction::Held => Answer::Held,
-        Reaction::HeldAfter(sent) => Answer::Started(post(is_core, outbox, sent)),
+        Reaction::HeldAfter(sent) => Answer::Started(post_message(is_core, outbox, sent)),
     }
 }
 
 // Whether anything that a part may send, and the delivered message, find places: two of the held list are enough.
-fn is_roomy(outbox: &Outbox, places: u32) -> bool
+fn outbox_is_roomy(outbox: &Outbox, places: u32) -> bool
     ensures { result ≡ true → (is_core : Bool) (sends : Option (Node × Bool)) →
         finds_places is_core outbox.now places sends ≡ true }
 {
@@ -98,7 +98,7 @@ fn is_roomy(outbox: &Outbox, places: u32) -> bool
 
 // Whether what a part would send, if anything, and the delivered message find their places. The part is asked only if
 // not all would.
-fn finds_room<P: Part>(
+fn reaction_finds_room<P: Part>(
     is_core: bool,
     part: &P,
     outbox: &Outbox,
@@ -108,14 +108,14 @@ fn finds_room<P: Part>(
     requires { IsTrue (P.has_case part.now message.now) }
     ensures { result ≡ finds_places is_core outbox.now places (sent_by (P.table part.now message.now)) }
 {
-    if is_roomy(outbox, places) {
+    if outbox_is_roomy(outbox, places) {
         return true;
     }
-    finds_places(is_core, outbox, places, &part.sends(message))
+    sending_finds_places(is_core, outbox, places, &part.sends(message))
 }
 
 /// Hands a message to the part, if all that it would send finds a place, and sends that.
-pub(crate) fn react<P: Part>(
+pub(crate) fn deliver_if_room<P: Part>(
     is_core: bool,
     part: &mut P,
     outbox: &mut Outbox,
@@ -127,11 +127,11 @@ pub(crate) fn react<P: Part>(
         part.old (P.table part.old message.now) result part.new outbox.new }
     ensures fits { (result ≡ Answer.Held) ⊎ (needs result ≤ places) }
 {
-    if !finds_room(is_core, part, outbox, message, places) {
+    if !reaction_finds_room(is_core, part, outbox, message, places) {
         return Answer::Refused(Refusal::Full);
     }
     match part.deliver(message) {
-        Ok(reaction) => answered(is_core, outbox, &reaction),
+        Ok(reaction) => send_reaction(is_core, outbox, &reaction),
         Err(PartError::Exhausted) => Answer::Refused(Refusal::Exhausted),
         Err(PartError::NoMemory) => Answer::Refused(Refusal::NoMemory),
     }
@@ -139,7 +139,7 @@ pub(crate) fn react<P: Part>(
 
 // Whether no message came in that isn't served.
 #[inline(always)]
-fn is_empty(came_in: &Inbox<Message>) -> bool
+fn inbox_is_empty(came_in: &Inbox<Message>) -> bool
     ensures { result ≡ true → came_in.now ≡ inbox None [] }
 {
     came_in.hand().is_none() && came_in.places() == 256
@@ -161,15 +161,15 @@ pub(crate) fn serve_part<P: Receiver<Message>>(
     ensures memory { result ≡ Err NoMemory → WantsMemory P.table P.takes_memory came_in.old.held
         part.old (order_of came_in.old.hand came_in.old.held) }
 {
-    if is_empty(came_in) {
+    if inbox_is_empty(came_in) {
         return Ok(Served::Nothing);
     }
-    serve_filled(came_in, part)
+    serve_nonempty_inbox(came_in, part)
 }
 
 // The same, by a call of its own: most servings find no message.
 #[inline(never)]
-fn serve_filled<P: Receiver<Message>>(
+fn serve_nonempty_inbox<P: Receiver<Message>>(
     came_in: &mut Inbox<Message>,
     part: &mut P,
 ) -> Result<Served, Refusal>

@@ -6,11 +6,11 @@ ghost use Rattle.inbox.specs.Queues.{IsAfter, IsIn, values_of};
 ghost use Rattle.mailboxes.specs.Places.{AllLinked, StartsAt, end_of, has_link_to, link_to};
 ghost use Rattle.mailboxes.specs.BoxMoves.{IsAt, Stands, Stays, PutAt, Puts, hold};
 
-use crate::ends::{end_of, link_to};
-use crate::links::find_free;
+use crate::ends::{link_end_number, link_number_to};
+use crate::links::find_free_slot;
 use crate::machine::Machine;
 use crate::mailbox::Mailbox;
-use crate::steps::send;
+use crate::steps::send_into_slot;
 use inbox::Queue;
 use line_arena::Cell;
 use network::Message;
@@ -42,8 +42,8 @@ impl Mailbox {
             let Some(cell) = next else {
                 return false;
             };
-            let (link, end) = self.link_at(machine, outbox, cell);
-            if !full[end] && self.put_at(machine, outbox, cell, index as usize, link) {
+            let (link, end) = self.link_of_cell(machine, outbox, cell);
+            if !full[end] && self.put_cell(machine, outbox, cell, index as usize, link) {
                 return true;
             }
             full[end] = true;
@@ -53,7 +53,7 @@ impl Mailbox {
     }
 
     // The link of the message of a cell of the outbox, and the core or bank to which it goes.
-    fn link_at(&self, machine: &Machine, outbox: &Queue<Message>, cell: Cell) -> (usize, usize)
+    fn link_of_cell(&self, machine: &Machine, outbox: &Queue<Message>, cell: Cell) -> (usize, usize)
         requires seat { IsAt machine.now self.now }
         requires linked { AllLinked self.now.cores self.now.banks self.now.number
             (values_of outbox.now) }
@@ -71,13 +71,13 @@ impl Mailbox {
         let to = outbox.get(cell).to;
         let config = &machine.set_up.config;
         (
-            link_to(config, self.number, &to),
-            end_of(config, self.number, &to),
+            link_number_to(config, self.number, &to),
+            link_end_number(config, self.number, &to),
         )
     }
 
     // Puts the message of a cell of the outbox, which comes after `index` others, into a slot of its link.
-    fn put_at(
+    fn put_cell(
         &mut self,
         machine: &Machine,
         outbox: &mut Queue<Message>,
@@ -104,11 +104,11 @@ impl Mailbox {
         ensures kept { result ≡ false → outbox.new ≡ outbox.old }
     {
         seats_stand();
-        match find_free(&machine.table.shared, &mut self.seat, link) {
+        match find_free_slot(&machine.table.shared, &mut self.seat, link) {
             None => false,
             Some(slot) => {
                 let message = outbox.take(cell);
-                send(&machine.table.shared, &mut self.seat, slot, message, index);
+                send_into_slot(&machine.table.shared, &mut self.seat, slot, message, index);
                 true
             }
         }

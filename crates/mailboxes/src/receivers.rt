@@ -1,5 +1,5 @@
 //! The parts of seats, as what messages are delivered to.
-use crate::part_serving::react;
+use crate::part_serving::deliver_if_room;
 use crate::sending::{SendingBank, SendingCore};
 use inbox::{Answer, Receiver};
 use machine_theorem::move_laws::{waiting_banks_stay, waiting_cores_stay};
@@ -17,7 +17,7 @@ impl Receiver<Message> for SendingCore {
 
     fn deliver(&mut self, message: &Message, places: u32) -> Answer<Message> {
         waiting_cores_stay();
-        react(true, &mut self.core, &mut self.outbox, message, places)
+        deliver_if_room(true, &mut self.core, &mut self.outbox, message, places)
     }
 }
 
@@ -35,8 +35,20 @@ impl Receiver<Message> for SendingBank {
         waiting_banks_stay();
         match message.to {
             Node::Core(_) => unreachable!(),
-            Node::Bank(_) => react(false, &mut self.bank, &mut self.outbox, message, places),
-            Node::Dram(_) => react(false, &mut self.dram, &mut self.outbox, message, places),
+            Node::Bank(_) => deliver_if_room(
+                false,
+                &mut self.bank,
+                &mut self.outbox,
+                message,
+                places,
+            ),
+            Node::Dram(_) => deliver_if_room(
+                false,
+                &mut self.dram,
+                &mut self.outbox,
+                message,
+                places,
+            ),
         }
     }
 }

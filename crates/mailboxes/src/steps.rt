@@ -98,7 +98,7 @@ impl Join<Known> for SeatJoin {
 
 /// Looks at a slot that goes out from the seat, and answers its word. A slot that is found empty is then out with the
 /// seat.
-pub fn look_out(table: &SlotTable, seat: &mut SlotSeat, slot: usize) -> u64
+pub fn look_at_outgoing_slot(table: &SlotTable, seat: &mut SlotSeat, slot: usize) -> u64
     requires table { Belongs seat.old.table_id table.now.table_id table.now.key }
     requires slot { (slot < slot_count table.now.key) ×
         (from_of table.now.key slot ≡ seat.old.me.0.number) }
@@ -112,7 +112,7 @@ pub fn look_out(table: &SlotTable, seat: &mut SlotSeat, slot: usize) -> u64
 
 /// Looks at a slot that comes in to the seat, and answers its word. A slot that is found full is then out with the
 /// seat, and its message is addressed to the seat.
-pub fn look_in(table: &SlotTable, seat: &mut SlotSeat, slot: usize) -> u64
+pub fn look_at_incoming_slot(table: &SlotTable, seat: &mut SlotSeat, slot: usize) -> u64
     requires table { Belongs seat.old.table_id table.now.table_id table.now.key }
     requires slot { (slot < slot_count table.now.key) ×
         (to_of table.now.key slot ≡ seat.old.me.0.number) }
@@ -120,10 +120,14 @@ pub fn look_in(table: &SlotTable, seat: &mut SlotSeat, slot: usize) -> u64
     ensures table { (seat.new.table_id ≡ seat.old.table_id) × (seat.new.id ≡ seat.old.id) }
     ensures saw { saw_in table.now.key (step 0 slot 0 0 none) seat.old.me result seat.new.me }
 {
-    looked_in::<Brand>(table, seat, slot)
+    look_at_incoming_slot_as::<Brand>(table, seat, slot)
 }
 
-fn looked_in<C: StepChoice>(table: &SlotTable, seat: &mut SlotSeat, slot: usize) -> u64
+fn look_at_incoming_slot_as<C: StepChoice>(
+    table: &SlotTable,
+    seat: &mut SlotSeat,
+    slot: usize,
+) -> u64
     requires table { Belongs seat.old.table_id table.now.table_id table.now.key }
     requires slot { (slot < slot_count table.now.key) ×
         (to_of table.now.key slot ≡ seat.old.me.0.number) }
@@ -137,7 +141,7 @@ fn looked_in<C: StepChoice>(table: &SlotTable, seat: &mut SlotSeat, slot: usize)
 }
 
 // Gives the slot back with the word, and the view becomes what the call picks.
-fn give<C: StepChoice>(table: &SlotTable, seat: &mut SlotSeat, slot: usize, word: u64)
+fn give_slot_back<C: StepChoice>(table: &SlotTable, seat: &mut SlotSeat, slot: usize, word: u64)
     requires table { (seat.old.table_id ≡ table.now.table_id) × (slot < table.now.table_id.words) }
     requires rule { Allows (Holds table.now.key) table.now.table_id.slots seat.old.id seat.old.me
         slot (λ _. word) (λ _. gave C.set_up (seat_count C.set_up) C.to seat.old.me) }
@@ -149,7 +153,13 @@ fn give<C: StepChoice>(table: &SlotTable, seat: &mut SlotSeat, slot: usize, word
 
 /// Writes a message into the slot that is out with the seat, and gives it back full. The message was that at `index`
 /// of the outbox.
-pub fn send(table: &SlotTable, seat: &mut SlotSeat, slot: usize, message: Message, index: usize)
+pub fn send_into_slot(
+    table: &SlotTable,
+    seat: &mut SlotSeat,
+    slot: usize,
+    message: Message,
+    index: usize,
+)
     requires table { Belongs seat.old.table_id table.now.table_id table.now.key }
     requires slot { (slot < slot_count table.now.key) × (seat.old.me.1 ≡ (slot, None) ∷ []) }
     requires writing { (seat.old.me.0.spent ≡ false) ×
@@ -162,10 +172,10 @@ pub fn send(table: &SlotTable, seat: &mut SlotSeat, slot: usize, message: Messag
     ensures standing { Standing table.now.key (seat_count table.now.key) seat.old.me.0.number
         (put_hold seat.old.me.0.mine slot message index) }
 {
-    sent::<Brand>(table, seat, slot, message, index);
+    send_into_slot_as::<Brand>(table, seat, slot, message, index);
 }
 
-fn sent<C: StepChoice>(
+fn send_into_slot_as<C: StepChoice>(
     table: &SlotTable,
     seat: &mut SlotSeat,
     slot: usize,
@@ -190,11 +200,11 @@ fn sent<C: StepChoice>(
         None => {}
         Some(_) => unreachable!(),
     }
-    give::<C>(table, seat, slot, 1);
+    give_slot_back::<C>(table, seat, slot, 1);
 }
 
 /// Moves the message out of the slot that is out with the seat, and gives it back empty.
-pub fn receive(table: &SlotTable, seat: &mut SlotSeat, slot: usize) -> Message
+pub fn receive_from_slot(table: &SlotTable, seat: &mut SlotSeat, slot: usize) -> Message
     requires table { Belongs seat.old.table_id table.now.table_id table.now.key }
     requires slot { (slot < slot_count table.now.key) × (seat.old.me.0.spent ≡ false) ×
         (seat.old.me.0.mine.hand ≡ None) }
@@ -209,10 +219,10 @@ pub fn receive(table: &SlotTable, seat: &mut SlotSeat, slot: usize) -> Message
     let found = table.exchange(seat, slot, None);
     let message = found.unwrap();
     let _body: Body = message.body;
-    received::<Brand>(table, seat, slot, message)
+    receive_from_slot_as::<Brand>(table, seat, slot, message)
 }
 
-fn received<C: StepChoice>(
+fn receive_from_slot_as<C: StepChoice>(
     table: &SlotTable,
     seat: &mut SlotSeat,
     slot: usize,
@@ -230,7 +240,7 @@ fn received<C: StepChoice>(
         Standing C.set_up (seat_count C.set_up) C.to.number C.to.mine }
 {
     puts_and_takes_keep_the_rule();
-    give::<C>(table, seat, slot, 0);
+    give_slot_back::<C>(table, seat, slot, 0);
     message
 }
 

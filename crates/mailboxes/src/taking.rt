@@ -13,7 +13,7 @@ ghost use Rattle.mailboxes.specs.BoxMoves.{FindsFull, FindsNone, IsAt, Stands, S
 use crate::ends::Slots;
 use crate::machine::Machine;
 use crate::mailbox::Mailbox;
-use crate::steps::{SlotSeat, look_in, receive};
+use crate::steps::{SlotSeat, look_at_incoming_slot, receive_from_slot};
 use crate::taken::Take;
 use inbox::Inbox;
 use network::{Body, Message};
@@ -21,7 +21,7 @@ use seat_rule::laws::slots_are_few;
 use seat_rule::parts::seats_stand;
 
 // The place after this one among so many, going round.
-fn place_after(place: usize, count: usize) -> usize
+fn cyclic_place_after(place: usize, count: usize) -> usize
     requires { (place < count) × (count ≤ 256) }
     ensures { result ≡ (place + 1) % count }
 {
@@ -30,7 +30,7 @@ fn place_after(place: usize, count: usize) -> usize
 
 // The place that a cursor stands for.
 #[inline(always)]
-fn place_of(cursor: usize, count: usize) -> usize
+fn place_of_cursor(cursor: usize, count: usize) -> usize
     requires { 0 < count }
     ensures { result ≡ cursor % count }
 {
@@ -42,7 +42,7 @@ fn place_of(cursor: usize, count: usize) -> usize
 
 // The first slot of the link from the core or bank of this number.
 #[inline(always)]
-fn first_slot(machine: &Machine, number: u32, slots: &Slots, from: usize) -> usize
+fn first_slot_of_link(machine: &Machine, number: u32, slots: &Slots, from: usize) -> usize
     requires number { number < machine.now.set_up.config.cores + machine.now.set_up.config.banks }
     requires slots { AreIncoming machine.now.set_up.config.cores machine.now.set_up.config.banks
         number slots.now }
@@ -58,7 +58,7 @@ fn first_slot(machine: &Machine, number: u32, slots: &Slots, from: usize) -> usi
 // The first one that is found full of so many slots of a link, and the place after it. The slots begin at this place,
 // and come in to the seat. All are looked at if none is full.
 #[inline(always)]
-fn find_in_link(
+fn find_full_in_link(
     machine: &Machine,
     seat: &mut SlotSeat,
     number: u32,
@@ -85,8 +85,8 @@ fn find_in_link(
 {
     slots_are_few(&machine.set_up.config);
     for k in 0..looks {
-        if look_in(&machine.table.shared, seat, slot + k) != 0 {
-            let after = place_after(place + k, slots.count);
+        if look_at_incoming_slot(&machine.table.shared, seat, slot + k) != 0 {
+            let after = cyclic_place_after(place + k, slots.count);
             return Some((slot + k, after));
         }
     }
@@ -96,7 +96,7 @@ fn find_in_link(
 // The same. A cursor mostly stands behind the first slot of a link, so that three slots are left of it, and then one:
 // loops of a known length have no counter in the built program.
 #[inline(always)]
-fn find_in_part(
+fn find_full_in_part(
     machine: &Machine,
     seat: &mut SlotSeat,
     number: u32,
@@ -122,15 +122,15 @@ fn find_in_part(
     ensures within { IfSome result (λ f. f.1 < 256) }
 {
     match looks {
-        1 => find_in_link(machine, seat, number, slots, place, slot, 1),
-        3 => find_in_link(machine, seat, number, slots, place, slot, 3),
-        _ => find_in_link(machine, seat, number, slots, place, slot, looks),
+        1 => find_full_in_link(machine, seat, number, slots, place, slot, 1),
+        3 => find_full_in_link(machine, seat, number, slots, place, slot, 3),
+        _ => find_full_in_link(machine, seat, number, slots, place, slot, looks),
     }
 }
 
 // The same of so many links, one after the other.
 #[inline(always)]
-fn find_in_links(
+fn find_full_in_links(
     machine: &Machine,
     seat: &mut SlotSeat,
     number: u32,
@@ -158,7 +158,7 @@ fn find_in_links(
     slots_are_few(&machine.set_up.config);
     let mut at = slot;
     for n in 0..links {
-        if let Some(found) = find_in_link(machine, seat, number, slots, place + 4 * n, at, 4) {
+        if let Some(found) = find_full_in_link(machine, seat, number, slots, place + 4 * n, at, 4) {
             return Some(found);
         }
         at += slots.stride;
@@ -169,7 +169,7 @@ fn find_in_links(
 // The first slot that comes in and is found full, from the cursor on and going round, and the place after it. The slot
 // is then out with the seat. All are looked at if none is full.
 #[inline(always)]
-fn find_full(
+fn find_full_slot(
     machine: &Machine,
     seat: &mut SlotSeat,
     number: u32,
@@ -192,23 +192,31 @@ fn find_full(
         seat.new.me) }
     ensures within { IfSome result (λ f. f.1 < 256) }
 {
-    let start = place_of(cursor, slots.count);
+    let start = place_of_cursor(cursor, slots.count);
     let column = start % 4;
     let link = start - column;
-    let slot = first_slot(machine, number, slots, start / 4);
+    let slot = first_slot_of_link(machine, number, slots, start / 4);
     let at = slot + column;
-    if let Some(found) = find_in_part(machine, seat, number, slots, start, at, 4 - column) {
+    if let Some(found) = find_full_in_part(machine, seat, number, slots, start, at, 4 - column) {
         return Some(found);
     }
     let later = slots.count / 4 - start / 4 - 1;
     let next = slot + slots.stride;
-    if let Some(found) = find_in_links(machine, seat, number, slots, link + 4, next, later) {
+    if let Some(found) = find_full_in_links(machine, seat, number, slots, link + 4, next, later) {
         return Some(found);
     }
-    if let Some(found) = find_in_links(machine, seat, number, slots, 0, slots.first, start / 4) {
+    if let Some(found) = find_full_in_links(
+        machine,
+        seat,
+        number,
+        slots,
+        0,
+        slots.first,
+        start / 4,
+    ) {
         return Some(found);
     }
-    find_in_part(machine, seat, number, slots, link, slot, column)
+    find_full_in_part(machine, seat, number, slots, link, slot, column)
 }
 
 // Moves the message out of the slot that is out with the seat into the hand, and gives the slot back empty. It is a
@@ -234,7 +242,7 @@ fn fill_hand(
         seat.old.me.0.number (take_hold seat.old.me.0.mine slot m) }
     ensures answer { result ≡ Take.Taken }
 {
-    let message = receive(&machine.table.shared, seat, slot);
+    let message = receive_from_slot(&machine.table.shared, seat, slot);
     let _body: Body = message.body;
     came_in.fill_hand(message);
     Take::Taken
@@ -255,7 +263,7 @@ impl Mailbox {
             return Take::HandFull;
         }
         seats_stand();
-        let found = find_full(
+        let found = find_full_slot(
             machine,
             &mut self.seat,
             self.number,

@@ -43,20 +43,20 @@ pub(crate) trait Turner {
     /// The seat's number, which doesn't change.
     ghost number: { Self → ℕ };
 
-    fn put_one(&mut self, machine: &Machine) -> bool
+    fn put_message(&mut self, machine: &Machine) -> bool
         requires { is_here machine.now self.old }
         ensures seat { is_here machine.now self.new }
         ensures number { number self.new ≡ number self.old }
         ensures put { puts machine.now result self.old self.new }
         ensures fewer { result ≡ true → waiting self.new + 1 ≡ waiting self.old };
 
-    fn serve_one(&mut self, machine: &Machine) -> Result<Served, Refusal>
+    fn serve_message(&mut self, machine: &Machine) -> Result<Served, Refusal>
         requires { is_here machine.now self.old }
         ensures seat { is_here machine.now self.new }
         ensures number { number self.new ≡ number self.old }
         ensures served { serves machine.now result self.old self.new };
 
-    fn take_one(&mut self, machine: &Machine) -> Take
+    fn take_message(&mut self, machine: &Machine) -> Take
         requires { is_here machine.now self.old }
         ensures seat { is_here machine.now self.new }
         ensures number { number self.new ≡ number self.old }
@@ -65,22 +65,22 @@ pub(crate) trait Turner {
     fn hand_is_full(&self) -> bool
         ensures { result ≡ full self.now };
 
-    fn to_put(&self) -> u32
+    fn messages_to_put(&self) -> u32
         ensures value { result ≡ waiting self.now }
         ensures within { result ≤ 256 };
 }
 
 // Puts messages until none finds a free slot, and answers how many.
-fn put_all<S: Turner>(seat: &mut S, machine: &Machine) -> u32
+fn put_all_messages<S: Turner>(seat: &mut S, machine: &Machine) -> u32
     requires { S.is_here machine.now seat.old }
     ensures seat { S.is_here machine.now seat.new }
     ensures number { S.number seat.new ≡ S.number seat.old }
     ensures put { PutAll (S.puts machine.now) result seat.old seat.new }
     ensures within { result ≤ 256 }
 {
-    let _within = seat.to_put();
+    let _within = seat.messages_to_put();
     for count in 0..257 {
-        if !seat.put_one(machine) {
+        if !seat.put_message(machine) {
             return count;
         }
     }
@@ -88,7 +88,7 @@ fn put_all<S: Turner>(seat: &mut S, machine: &Machine) -> u32
 }
 
 // Whether nothing came of the messages that are held.
-fn is_idle(served: &Result<Served, Refusal>) -> bool
+fn served_nothing(served: &Result<Served, Refusal>) -> bool
     ensures { result ≡ is_idle served.now }
 {
     matches!(served, Ok(Served::Held | Served::Nothing))
@@ -107,16 +107,16 @@ fn take_and_serve<S: Turner>(
     ensures served { Follows (S.serves machine.now) (S.takes machine.now) before seat.old result
         seat.new }
 {
-    match seat.take_one(machine) {
-        Take::Taken => seat.serve_one(machine),
+    match seat.take_message(machine) {
+        Take::Taken => seat.serve_message(machine),
         Take::Nothing => before,
-        Take::HandFull => seat.serve_one(machine),
+        Take::HandFull => seat.serve_message(machine),
     }
 }
 
 // Serves the hand if it is full; else a held message, and if nothing comes of these, a message that is taken.
 #[inline(always)]
-fn serve_first<S: Turner>(seat: &mut S, machine: &Machine) -> Result<Served, Refusal>
+fn serve_or_take<S: Turner>(seat: &mut S, machine: &Machine) -> Result<Served, Refusal>
     requires { S.is_here machine.now seat.old }
     ensures seat { S.is_here machine.now seat.new }
     ensures number { S.number seat.new ≡ S.number seat.old }
@@ -124,10 +124,10 @@ fn serve_first<S: Turner>(seat: &mut S, machine: &Machine) -> Result<Served, Ref
         result seat.new }
 {
     if seat.hand_is_full() {
-        return seat.serve_one(machine);
+        return seat.serve_message(machine);
     }
-    let before = seat.serve_one(machine);
-    if is_idle(&before) {
+    let before = seat.serve_message(machine);
+    if served_nothing(&before) {
         return take_and_serve(seat, machine, before);
     }
     before
@@ -135,7 +135,7 @@ fn serve_first<S: Turner>(seat: &mut S, machine: &Machine) -> Result<Served, Ref
 
 /// Puts what can be put, and serves.
 #[inline(always)]
-pub(crate) fn turn_of<S: Turner>(seat: &mut S, machine: &Machine) -> Result<Turn, Refusal>
+pub(crate) fn seat_turn<S: Turner>(seat: &mut S, machine: &Machine) -> Result<Turn, Refusal>
     requires { S.is_here machine.now seat.old }
     ensures seat { S.is_here machine.now seat.new }
     ensures number { S.number seat.new ≡ S.number seat.old }
@@ -143,8 +143,8 @@ pub(crate) fn turn_of<S: Turner>(seat: &mut S, machine: &Machine) -> Result<Turn
         seat.old result seat.new }
     ensures within { IfOk result (λ turn. turn.put ≤ 256) }
 {
-    let put = put_all(seat, machine);
-    match serve_first(seat, machine) {
+    let put = put_all_messages(seat, machine);
+    match serve_or_take(seat, machine) {
         Ok(served) => Ok(Turn { put, served }),
         Err(refusal) => Err(refusal),
     }

@@ -6,7 +6,7 @@ ghost use Rattle.mailboxes.specs.Seats.{AllCoreSeats, AllBankSeats, AreAll};
 use crate::bank_seat::BankSeat;
 use crate::core_seat::CoreSeat;
 use crate::machine::Machine;
-use closed_machine::{Numbered, has_all};
+use closed_machine::{Numbered, has_all_numbers};
 
 impl Numbered for CoreSeat {
     ghost number = { λ p. p.mail.number };
@@ -33,9 +33,9 @@ impl Machine {
         ensures missing { AreAll self.now cores.now banks.now → result ≡ true }
     {
         let config = self.set_up.config;
-        if !has_all(cores, 0, config.cores) {
+        if !has_all_numbers(cores, 0, config.cores) {
             return false;
         }
-        has_all(banks, config.cores, config.banks)
+        has_all_numbers(banks, config.cores, config.banks)
     }
 }

@@ -11,7 +11,7 @@ const ROOM_BETWEEN: usize = 8;
 
 /// `hands` empty hands, each with room for its share of `items` items and for eight more. AllocError if memory for them
 /// can't be allocated.
-pub fn empty_hands<T: Drop>(
+pub fn new_empty_hands<T: Drop>(
     alloc: Global,
     hands: usize,
     items: usize,
@@ -25,11 +25,15 @@ pub fn empty_hands<T: Drop>(
     let Some(room) = (items / hands).checked_add(1 + ROOM_BETWEEN) else {
         return Err(AllocError);
     };
-    roomy_hands(alloc, hands, room)
+    new_hands_with_room(alloc, hands, room)
 }
 
 // So many empty hands, with room for so many items each.
-fn roomy_hands<T: Drop>(alloc: Global, hands: usize, room: usize) -> Result<Vec<Vec<T>>, AllocError>
+fn new_hands_with_room<T: Drop>(
+    alloc: Global,
+    hands: usize,
+    room: usize,
+) -> Result<Vec<Vec<T>>, AllocError>
     ensures long { IfOk result (λ r. length r.items ≡ hands) }
     ensures empty { IfOk result (λ r. All (λ v. (v.items ≡ []) × (room ≤ vec_capacity v)) r.items) }
     ensures capacity { IfOk result (λ r. hands ≤ vec_capacity r) }

@@ -5,6 +5,6 @@ mod dealing;
 mod gathering;
 mod laws;
 
-pub use dealing::{deal, empty_hands};
+pub use dealing::{deal, new_empty_hands};
 pub use gathering::gather;
 pub use laws::{dealt_hands_have_lengths, one_list_gives_the_hands};

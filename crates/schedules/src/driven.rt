@@ -9,7 +9,7 @@ ghost use Rattle.machine_theorem.specs.Service.{AreServed};
 ghost use Rattle.schedules.specs.GivenSteps.{GivesSteps};
 
 use crate::log::Log;
-use crate::run::run;
+use crate::run::run_turns;
 use crate::schedule::Schedule;
 use crate::watcher::Watcher;
 use interleaving_core::{Event, History, System};
@@ -25,7 +25,7 @@ pub struct Driven {
 }
 
 // Turns until a run ends, of a schedule that issues and advances cores as their programs say.
-pub(crate) fn finish<P: Program, W: Watcher, S: Schedule<P>, K: History>(
+pub(crate) fn run_schedule<P: Program, W: Watcher, S: Schedule<P>, K: History>(
     schedule: &mut S,
     system: &mut System<K>,
     programs: &mut [P],
@@ -43,13 +43,13 @@ pub(crate) fn finish<P: Program, W: Watcher, S: Schedule<P>, K: History>(
 {
     let _cores = system.cores();
     system.records_are_legal();
-    let end = run(schedule, system, programs, log, limit);
+    let end = run_turns(schedule, system, programs, log, limit);
     system.records_are_legal();
     end
 }
 
 // The same, with the list of events.
-pub(crate) fn drive<P: Program, S: Schedule<P>>(
+pub(crate) fn drive_schedule<P: Program, S: Schedule<P>>(
     alloc: Global,
     system: &mut System,
     programs: &mut [P],
@@ -66,7 +66,7 @@ pub(crate) fn drive<P: Program, S: Schedule<P>>(
     ensures served { AreServed P.acts system.old system.new programs.old programs.new }
 {
     let mut log = Log::new(Vec::new(alloc));
-    let end = finish(schedule, system, programs, &mut log, limit);
+    let end = run_schedule(schedule, system, programs, &mut log, limit);
     Driven {
         end,
         events: log.into_watcher(),

@@ -121,14 +121,14 @@ impl<W> Log<W> {
 
     // The cores whose programs have a next step, as was noted.
     #[inline(always)]
-    pub(crate) fn unfinished(&self) -> u64
+    pub(crate) fn unfinished_cores(&self) -> u64
         ensures { result ≡ self.now.unfinished }
     {
         self.unfinished
     }
 
     // The cores whose programs have a next step are noted.
-    pub(crate) fn note_all(&mut self, unfinished: u64)
+    pub(crate) fn set_unfinished_cores(&mut self, unfinished: u64)
         ensures { self.new ≡ record self.old { unfinished = unfinished } }
     {
         self.unfinished = unfinished;
@@ -136,7 +136,7 @@ impl<W> Log<W> {
 
     // Whether a core's program has a next step is noted.
     #[inline(always)]
-    pub(crate) fn note_next(&mut self, core: u32, has_next: bool)
+    pub(crate) fn set_core_unfinished(&mut self, core: u32, has_next: bool)
         requires { core < 64 }
         ensures same { self.new ≡ record self.old { unfinished = self.new.unfinished } }
         ensures here { bit_at self.new.unfinished core ≡ (if has_next then 1 else 0) }
@@ -150,7 +150,12 @@ impl<W> Log<W> {
 impl<W: Watcher> Log<W> {
     // An answered event is noted, for which the watcher is ready, and shown with the machine after it.
     #[inline(always)]
-    fn note<K: History>(&mut self, system: &System<K>, event: &Event, plain: &Option<PlainAnswer>)
+    fn log_event<K: History>(
+        &mut self,
+        system: &System<K>,
+        event: &Event,
+        plain: &Option<PlainAnswer>,
+    )
         requires { (before : Machine) × W.watches.IsReady self.old.watcher before event.now }
         ensures { (before : Machine) → W.watches.IsReady self.old.watcher before event.now →
             IsNoted W.watches before self.old event.now (answer_in system.now.records plain.now)
@@ -162,9 +167,10 @@ impl<W: Watcher> Log<W> {
         }
     }
 
-    // Notes the answer to an event, for which the watcher is ready. An error ends the run, as one of `step` does.
+    // Notes the answer to an event, for which the watcher is ready. An error ends the run, as one of `step_and_log`
+    // does.
     #[inline(always)]
-    fn settle<K: History>(
+    fn log_answer<K: History>(
         &mut self,
         system: &System<K>,
         event: &Event,
@@ -179,13 +185,13 @@ impl<W: Watcher> Log<W> {
     {
         every_answer_keeps_its_word();
         if !is_refused(&plain) {
-            self.note(system, event, &plain);
+            self.log_event(system, event, &plain);
             return Ok(plain);
         }
         if is_no_memory(&plain) {
             return Err(End::NoMemory);
         }
-        self.note(system, event, &plain);
+        self.log_event(system, event, &plain);
         if is_exhausted(&plain) {
             return Err(End::Exhausted);
         }
@@ -196,7 +202,7 @@ impl<W: Watcher> Log<W> {
 // Gives the machine an event and notes it. An error ends the run: Exhausted, where the event is noted, or NoMemory,
 // where nothing changed and it isn't. That comes only if the event asks for memory, or the watcher does.
 #[inline(always)]
-pub(crate) fn step<W: Watcher, K: History>(
+pub(crate) fn step_and_log<W: Watcher, K: History>(
     log: &mut Log<W>,
     system: &mut System<K>,
     event: &Event,
@@ -208,12 +214,12 @@ pub(crate) fn step<W: Watcher, K: History>(
         return Err(End::NoMemory);
     }
     let plain = system.step_plain(*event);
-    log.settle(system, event, plain)
+    log.log_answer(system, event, plain)
 }
 
 // The same for the delivery of a message. Where `waits` is set it is held, and no line need leave its bank for it.
 #[inline(always)]
-pub(crate) fn step_delivery<W: Watcher, K: History>(
+pub(crate) fn deliver_and_log<W: Watcher, K: History>(
     log: &mut Log<W>,
     system: &mut System<K>,
     number: MsgNo,
@@ -230,12 +236,12 @@ pub(crate) fn step_delivery<W: Watcher, K: History>(
     }
     let (plain, is_waiting) = system.step_delivery(number);
     *waits = is_waiting;
-    log.settle(system, &event, plain)
+    log.log_answer(system, &event, plain)
 }
 
 // The same for an attempt of a core. Most find that it waits for its line: these take few instructions, and no call.
 #[inline(always)]
-pub(crate) fn try_core<W: Watcher, K: History>(
+pub(crate) fn attempt_and_log<W: Watcher, K: History>(
     log: &mut Log<W>,
     system: &mut System<K>,
     core: u32,
@@ -245,7 +251,7 @@ pub(crate) fn try_core<W: Watcher, K: History>(
 {
     let event = Event::Attempt(core);
     if !system.is_waiting(core) {
-        return step(log, system, &event);
+        return step_and_log(log, system, &event);
     }
     if log.watcher.prepare(system, &event).is_err() {
         return Err(End::NoMemory);

@@ -14,7 +14,7 @@ use programs::Step;
 use programs::program::Program;
 
 // The next step of a core's program.
-pub(crate) fn next_in<P: Program>(programs: &[P], core: u32) -> Option<Step>
+pub(crate) fn next_step_of_core<P: Program>(programs: &[P], core: u32) -> Option<Step>
     ensures { result ≡ next_in P.acts programs.now core }
 {
     let at = core as usize;
@@ -25,12 +25,12 @@ pub(crate) fn next_in<P: Program>(programs: &[P], core: u32) -> Option<Step>
 }
 
 // The cores whose programs have a next step, of the first 64: core c is one exactly if bit c is set.
-pub(crate) fn unfinished<P: Program>(programs: &[P]) -> u64
+pub(crate) fn unfinished_cores<P: Program>(programs: &[P]) -> u64
     ensures { IsAsked P.acts programs.now result }
 {
     let mut mask = 0;
     for core in 0..programs.len().min(64) as u32 {
-        mask = with_bit(mask, core, next_in(programs, core).is_some());
+        mask = with_bit(mask, core, next_step_of_core(programs, core).is_some());
     }
     mask
 }
@@ -60,7 +60,7 @@ fn mark_step_done<P: Program, W>(
     if core >= 64 {
         return;
     }
-    log.note_next(core, next_in(programs, core).is_some());
+    log.set_core_unfinished(core, next_step_of_core(programs, core).is_some());
 }
 
 // Tells a core's program that its operation is done, if that completed: the machine's last record is of it.
@@ -101,18 +101,18 @@ pub(crate) fn mark_advance_done<P: Program, W>(
 }
 
 // Whether a core has no open operation and its program no next step.
-fn is_over<P: Program, K: History>(system: &System<K>, programs: &[P], core: u32) -> bool
+fn is_core_over<P: Program, K: History>(system: &System<K>, programs: &[P], core: u32) -> bool
     ensures { result ≡ is_over P.acts system.now programs.now core }
 {
     if system.open_op(core).is_some() {
         return false;
     }
-    next_in(programs, core).is_none()
+    next_step_of_core(programs, core).is_none()
 }
 
 // Whether that is so of all cores. While a program has a next step, the cores aren't asked.
 #[inline(always)]
-pub(crate) fn are_over<P: Program, W, K: History>(
+pub(crate) fn are_cores_over<P: Program, W, K: History>(
     system: &System<K>,
     programs: &[P],
     log: &Log<W>,
@@ -121,18 +121,22 @@ pub(crate) fn are_over<P: Program, W, K: History>(
     ensures { result ≡ are_over P.acts system.now programs.now system.now.config.cores }
 {
     let cores = system.cores();
-    if log.unfinished().trailing_zeros() < cores {
+    if log.unfinished_cores().trailing_zeros() < cores {
         return false;
     }
-    are_below_over(system, programs, cores)
+    are_cores_below_over(system, programs, cores)
 }
 
 // Whether that is so of all cores below a number.
-fn are_below_over<P: Program, K: History>(system: &System<K>, programs: &[P], cores: u32) -> bool
+fn are_cores_below_over<P: Program, K: History>(
+    system: &System<K>,
+    programs: &[P],
+    cores: u32,
+) -> bool
     ensures { result ≡ are_over P.acts system.now programs.now cores }
 {
     for core in 0..cores {
-        if !is_over(system, programs, core) {
+        if !is_core_over(system, programs, core) {
             return false;
         }
     }

@@ -9,7 +9,7 @@ ghost use Rattle.schedules.specs.Policies.{EndedBy, EndsBy};
 ghost use Rattle.schedules.specs.Watches.{AreSeen, watched};
 ghost use Rattle.machine_theorem.specs.Service.{AreServed};
 
-use crate::driven::finish;
+use crate::driven::run_schedule;
 use crate::log::Log;
 use crate::pace::Pace;
 use crate::policy::Policy;
@@ -95,12 +95,12 @@ pub fn run_on<P: Program, W: Watcher, K: History>(
     ensures served { AreServed P.acts system.old system.new programs.old programs.new }
 {
     let mut log = Log::new(watcher);
-    let end = finish_on(alloc, system, programs, &mut log, pace, limit);
+    let end = run_by_pace(alloc, system, programs, &mut log, pace, limit);
     (end, log.into_watcher())
 }
 
 // Turns of the policy's schedule until a run ends.
-fn finish_on<P: Program, W: Watcher, K: History>(
+fn run_by_pace<P: Program, W: Watcher, K: History>(
     alloc: Global,
     system: &mut System<K>,
     programs: &mut [P],
@@ -122,15 +122,15 @@ fn finish_on<P: Program, W: Watcher, K: History>(
     match pace.policy {
         Policy::Rounds => {
             let mut schedule = Rounds::new(alloc, false, system.cores());
-            finish(&mut schedule, system, programs, log, limit)
+            run_schedule(&mut schedule, system, programs, log, limit)
         }
         Policy::FairRounds => {
             let mut schedule = Rounds::new(alloc, true, system.cores());
-            finish(&mut schedule, system, programs, log, limit)
+            run_schedule(&mut schedule, system, programs, log, limit)
         }
         Policy::Seed(_) => {
             let had_order = system.keeps_order();
-            let end = finish(&mut pace.seeds, system, programs, log, limit);
+            let end = run_schedule(&mut pace.seeds, system, programs, log, limit);
             restore_order(system, had_order);
             end
         }

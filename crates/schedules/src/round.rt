@@ -6,9 +6,9 @@ ghost use Rattle.schedules.specs.RoundSchedule.{no_round, steps_on, tries_twice,
 ghost use Rattle.schedules.specs.Notes.{Did, at};
 
 use crate::log::Log;
-use crate::look_ups::next_in;
+use crate::look_ups::next_step_of_core;
 use crate::schedule::Schedule;
-use crate::turn::{attempt, deliver, do_step, make_event};
+use crate::turn::{attempt_or_make_place, deliver_or_make_room, do_program_step, make_event};
 use crate::watcher::Watcher;
 use interleaving_core::{Event, History, System};
 use network::MsgNo;
@@ -50,7 +50,7 @@ impl Rounds {
 
 // A core without an open operation does its program's next step. The result says whether it has one afterwards.
 #[inline(always)]
-fn begin_core<P: Program, W: Watcher, K: History>(
+fn begin_next_step<P: Program, W: Watcher, K: History>(
     system: &mut System<K>,
     programs: &mut [P],
     log: &mut Log<W>,
@@ -63,16 +63,16 @@ fn begin_core<P: Program, W: Watcher, K: History>(
     if system.open_op(core).is_some() {
         return Ok(true);
     }
-    let Some(next) = next_in(programs, core) else {
+    let Some(next) = next_step_of_core(programs, core) else {
         return Ok(false);
     };
-    do_step(system, programs, log, core, &next)?;
+    do_program_step(system, programs, log, core, &next)?;
     Ok(system.open_op(core).is_some())
 }
 
 // An open operation is attempted, and once more after a copy was to go.
 #[inline(always)]
-fn try_core<P: Program, W: Watcher, K: History>(
+fn attempt_with_retry<P: Program, W: Watcher, K: History>(
     system: &mut System<K>,
     programs: &mut [P],
     log: &mut Log<W>,
@@ -81,7 +81,7 @@ fn try_core<P: Program, W: Watcher, K: History>(
     ensures { Did P.acts W.watches (tries_twice P.acts core) (at system.old programs.old log.old) result
         (at system.new programs.new log.new) }
 {
-    if attempt(system, programs, log, core)? {
+    if attempt_or_make_place(system, programs, log, core)? {
         return make_event(system, programs, log, &Event::Attempt(core));
     }
     Ok(())
@@ -98,8 +98,8 @@ fn core_turn<P: Program, W: Watcher, K: History>(
     ensures { Did P.acts W.watches (core_turn P.acts core) (at system.old programs.old log.old) result
         (at system.new programs.new log.new) }
 {
-    match begin_core(system, programs, log, core) {
-        Ok(true) => try_core(system, programs, log, core),
+    match begin_next_step(system, programs, log, core) {
+        Ok(true) => attempt_with_retry(system, programs, log, core),
         Ok(false) => Ok(()),
         Err(end) => Err(end),
     }
@@ -126,7 +126,7 @@ fn core_turns<P: Program, W: Watcher, K: History>(
 
 // The messages with these numbers are delivered.
 #[inline(always)]
-fn deliveries<P: Program, W: Watcher, K: History>(
+fn deliver_messages<P: Program, W: Watcher, K: History>(
     system: &mut System<K>,
     log: &mut Log<W>,
     is_fair: bool,
@@ -137,7 +137,7 @@ fn deliveries<P: Program, W: Watcher, K: History>(
         (at system.new programs log.new) }
 {
     for number in numbers {
-        deliver::<P, W, K>(system, log, is_fair, *number)?;
+        deliver_or_make_room::<P, W, K>(system, log, is_fair, *number)?;
     }
     Ok(())
 }
@@ -158,7 +158,7 @@ impl<P: Program> Schedule<P> for Rounds {
         if system.list_in_flight(&mut self.numbers).is_err() {
             return Err(End::NoMemory);
         }
-        deliveries::<P, W, K>(system, log, self.is_fair, self.numbers.as_slice())
+        deliver_messages::<P, W, K>(system, log, self.is_fair, self.numbers.as_slice())
     }
 
     fn stalls(&self) -> bool {

@@ -7,7 +7,7 @@ ghost use Rattle.schedules.specs.RoundSchedule.{no_round, rounds};
 ghost use Rattle.schedules.specs.Runs.{Ended, initial_position, plan_of};
 ghost use Rattle.machine_theorem.specs.Service.{AreServed};
 
-use crate::driven::{Driven, drive};
+use crate::driven::{Driven, drive_schedule};
 use crate::round::Rounds;
 use interleaving_core::System;
 use programs::End;
@@ -37,7 +37,7 @@ pub fn drive_round<P: Program>(
     ensures served { AreServed P.acts system.old system.new programs.old programs.new }
 {
     let mut schedule = Rounds::new(alloc, false, system.cores());
-    drive(alloc, system, programs, &mut schedule, limit)
+    drive_schedule(alloc, system, programs, &mut schedule, limit)
 }
 
 /// Drives the machine by fair rounds (docs/SCHEDULES.md), as `drive_round` does by rounds. In these, if the eviction
@@ -59,5 +59,5 @@ pub fn drive_fair_round<P: Program>(
     ensures served { AreServed P.acts system.old system.new programs.old programs.new }
 {
     let mut schedule = Rounds::new(alloc, true, system.cores());
-    drive(alloc, system, programs, &mut schedule, limit)
+    drive_schedule(alloc, system, programs, &mut schedule, limit)
 }

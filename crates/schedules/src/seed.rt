@@ -15,9 +15,9 @@ ghost use Rattle.schedules.specs.Notes.{Did, IsAsked, at};
 ghost use Rattle.schedules.specs.SeedViews.{IsLine};
 
 use crate::log::Log;
-use crate::look_ups::next_in;
+use crate::look_ups::next_step_of_core;
 use crate::schedule::Schedule;
-use crate::turn::{attempt, deliver, do_step, make_event};
+use crate::turn::{attempt_or_make_place, deliver_or_make_room, do_program_step, make_event};
 use crate::watcher::Watcher;
 use interleaving_core::{Event, History, System, with_bit};
 use network::LineNo;
@@ -145,7 +145,7 @@ impl Holder for Entries {
 
 // The place that a word draws among so many entries. The division is one of 32 bits, which is cheap.
 #[inline(always)]
-fn place_in(b: u32, total: u128) -> u32
+fn drawn_index(b: u32, total: u128) -> u32
     requires { 0 < total }
     ensures { result ≡ b % total }
 {
@@ -156,7 +156,7 @@ fn place_in(b: u32, total: u128) -> u32
 }
 
 // An advance of a core.
-fn advance<P: Program, W: Watcher, K: History>(
+fn advance_drawn_core<P: Program, W: Watcher, K: History>(
     system: &mut System<K>,
     programs: &mut [P],
     log: &mut Log<W>,
@@ -202,7 +202,7 @@ fn drawn_line<H: Holder, K: History>(
     if let Err(error) = system.keep_order() {
         return Err(error);
     }
-    let mut at = place_in(b, total) as usize;
+    let mut at = drawn_index(b, total) as usize;
     for holder in 0..H::holders(system) {
         let count = H::count(system, holder);
         if at < count {
@@ -217,7 +217,7 @@ fn drawn_line<H: Holder, K: History>(
 }
 
 // The eviction of a line.
-fn evict<P: Program, W: Watcher, H: Holder, K: History>(
+fn evict_drawn_line<P: Program, W: Watcher, H: Holder, K: History>(
     system: &mut System<K>,
     programs: &mut [P],
     log: &mut Log<W>,
@@ -250,12 +250,12 @@ fn ready_cores<P: Program, W: Watcher, K: History>(
         system.now.config.cores) }
 {
     let _cores = system.cores();
-    system.trying_cores() | system.idle_cores() & log.unfinished()
+    system.trying_cores() | system.idle_cores() & log.unfinished_cores()
 }
 
 // The core that does something after so many others that do: the lowest one, once these are left out.
 #[inline(always)]
-fn core_at<P: Program, K: History>(
+fn ready_core_at<P: Program, K: History>(
     _system: &System<K>,
     _programs: &[P],
     ready: u64,
@@ -291,17 +291,17 @@ fn step_core<P: Program, W: Watcher, K: History>(
         (at system.old programs.old log.old) result (at system.new programs.new log.new) }
 {
     if system.open_op(core).is_some() {
-        attempt(system, programs, log, core)?;
+        attempt_or_make_place(system, programs, log, core)?;
         return Ok(());
     }
-    match next_in(programs, core) {
-        Some(next) => do_step(system, programs, log, core, &next),
+    match next_step_of_core(programs, core) {
+        Some(next) => do_program_step(system, programs, log, core, &next),
         None => unreachable!(),
     }
 }
 
 // A step of a core, or the delivery of a message.
-fn step<P: Program, W: Watcher, K: History>(
+fn step_core_or_deliver<P: Program, W: Watcher, K: History>(
     system: &mut System<K>,
     programs: &mut [P],
     log: &mut Log<W>,
@@ -317,20 +317,20 @@ fn step<P: Program, W: Watcher, K: History>(
     if total == 0 {
         return Ok(());
     }
-    let at = place_in(b, total);
+    let at = drawn_index(b, total);
     if at < count {
-        let core = core_at(system, programs, ready, at);
+        let core = ready_core_at(system, programs, ready, at);
         return step_core(system, programs, log, core);
     }
     match system.seek_message(at - count) {
-        Some(number) => deliver::<P, W, K>(system, log, false, number),
+        Some(number) => deliver_or_make_room::<P, W, K>(system, log, false, number),
         None => unreachable!(),
     }
 }
 
 // What two words draw: the first the list, and the second its entry.
 #[inline(always)]
-fn make_drawn<P: Program, W: Watcher, K: History>(
+fn make_drawn_event<P: Program, W: Watcher, K: History>(
     system: &mut System<K>,
     programs: &mut [P],
     log: &mut Log<W>,
@@ -342,10 +342,10 @@ fn make_drawn<P: Program, W: Watcher, K: History>(
         (at system.new programs.new log.new) }
 {
     match a % 16 {
-        0 => advance(system, programs, log, b),
-        1 => evict::<P, W, Copies, K>(system, programs, log, b),
-        2 => evict::<P, W, Entries, K>(system, programs, log, b),
-        _ => step(system, programs, log, b),
+        0 => advance_drawn_core(system, programs, log, b),
+        1 => evict_drawn_line::<P, W, Copies, K>(system, programs, log, b),
+        2 => evict_drawn_line::<P, W, Entries, K>(system, programs, log, b),
+        _ => step_core_or_deliver(system, programs, log, b),
     }
 }
 
@@ -362,7 +362,7 @@ impl<P: Program> Schedule<P> for Seeds {
     ) -> Result<(), End> {
         let a = self.generator.next_word();
         let b = self.generator.next_word();
-        make_drawn(system, programs, log, a, b)
+        make_drawn_event(system, programs, log, a, b)
     }
 
     fn stalls(&self) -> bool {

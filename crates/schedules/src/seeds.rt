@@ -7,7 +7,7 @@ ghost use Rattle.schedules.specs.Runs.{Ended, initial_position, plan_of};
 ghost use Rattle.schedules.specs.SeedSchedule.{of_seed, seeded};
 ghost use Rattle.machine_theorem.specs.Service.{AreServed};
 
-use crate::driven::{Driven, drive};
+use crate::driven::{Driven, drive_schedule};
 use crate::seed::Seeds;
 use interleaving_core::{History, System};
 use programs::End;
@@ -49,7 +49,7 @@ pub fn drive_seed<P: Program>(
 {
     let mut schedule = Seeds::new(seed);
     let had_order = system.keeps_order();
-    let driven = drive(alloc, system, programs, &mut schedule, limit);
+    let driven = drive_schedule(alloc, system, programs, &mut schedule, limit);
     restore_order(system, had_order);
     driven
 }

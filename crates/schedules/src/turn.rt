@@ -5,7 +5,9 @@ ghost use Rattle.schedules.specs.Parts.{Does, Advances, one, finds_no_place, tri
 ghost use Rattle.schedules.specs.RoundSchedule.{step_action};
 ghost use Rattle.schedules.specs.Notes.{Did, at};
 
-use crate::log::{Log, is_evicted, is_held, is_no_room, step, step_delivery, try_core};
+use crate::log::{
+    Log, attempt_and_log, deliver_and_log, is_evicted, is_held, is_no_room, step_and_log,
+};
 use crate::look_ups::{mark_advance_done, mark_operation_done};
 use crate::watcher::Watcher;
 use interleaving_core::{Event, History, System};
@@ -24,14 +26,14 @@ pub(crate) fn make_event<P: Program, W: Watcher, K: History>(
     ensures { Did P.acts W.watches (one (Does event.now)) (at system.old programs.old log.old) result
         (at system.new programs.new log.new) }
 {
-    let plain = step(log, system, event)?;
+    let plain = step_and_log(log, system, event)?;
     mark_operation_done(system, programs, log, &plain);
     Ok(())
 }
 
 // An attempt; if there is no place for the line, a copy goes. The result says whether there was none.
 #[inline(always)]
-pub(crate) fn attempt<P: Program, W: Watcher, K: History>(
+pub(crate) fn attempt_or_make_place<P: Program, W: Watcher, K: History>(
     system: &mut System<K>,
     programs: &mut [P],
     log: &mut Log<W>,
@@ -41,9 +43,9 @@ pub(crate) fn attempt<P: Program, W: Watcher, K: History>(
         (at system.new programs.new log.new) }
     ensures full { IfOk result (λ full. full ≡ finds_no_place system.old core) }
 {
-    let plain = try_core(log, system, core)?;
+    let plain = attempt_and_log(log, system, core)?;
     if is_no_room(&plain) {
-        evict::<P, W, K>(system, log, core)?;
+        evict_copy_for_place::<P, W, K>(system, log, core)?;
         return Ok(true);
     }
     mark_operation_done(system, programs, log, &plain);
@@ -52,7 +54,7 @@ pub(crate) fn attempt<P: Program, W: Watcher, K: History>(
 
 // A copy goes so that there is a place for the line of a core's open operation.
 #[inline(always)]
-fn evict<P: Program, W: Watcher, K: History>(
+fn evict_copy_for_place<P: Program, W: Watcher, K: History>(
     system: &mut System<K>,
     log: &mut Log<W>,
     core: u32,
@@ -63,13 +65,13 @@ fn evict<P: Program, W: Watcher, K: History>(
     let Some(line) = system.open_victim(core) else {
         return Ok(());
     };
-    step(log, system, &Event::EvictCache(core, line))?;
+    step_and_log(log, system, &Event::EvictCache(core, line))?;
     Ok(())
 }
 
 // A message is delivered; if it is held, a line leaves its bank if that makes a place.
 #[inline(always)]
-pub(crate) fn deliver<P: Program, W: Watcher, K: History>(
+pub(crate) fn deliver_or_make_room<P: Program, W: Watcher, K: History>(
     system: &mut System<K>,
     log: &mut Log<W>,
     is_fair: bool,
@@ -79,12 +81,12 @@ pub(crate) fn deliver<P: Program, W: Watcher, K: History>(
         (at system.old programs log.old) result (at system.new programs log.new) }
 {
     let mut waits = false;
-    let plain = step_delivery(log, system, number, &mut waits)?;
+    let plain = deliver_and_log(log, system, number, &mut waits)?;
     if waits {
         return Ok(());
     }
     if is_held(&plain) {
-        return evict_bank::<P, W, K>(system, log, is_fair, number);
+        return evict_line_for_room::<P, W, K>(system, log, is_fair, number);
     }
     Ok(())
 }
@@ -92,7 +94,7 @@ pub(crate) fn deliver<P: Program, W: Watcher, K: History>(
 // A line leaves the bank of a held message, if that makes a place for it. If that is answered Evicted and rounds are
 // fair, the message is delivered once more.
 #[inline(always)]
-fn evict_bank<P: Program, W: Watcher, K: History>(
+fn evict_line_for_room<P: Program, W: Watcher, K: History>(
     system: &mut System<K>,
     log: &mut Log<W>,
     is_fair: bool,
@@ -104,7 +106,7 @@ fn evict_bank<P: Program, W: Watcher, K: History>(
     let Some(victim) = system.make_room(number) else {
         return Ok(());
     };
-    let plain = step(log, system, &Event::EvictBank(victim.0, victim.1))?;
+    let plain = step_and_log(log, system, &Event::EvictBank(victim.0, victim.1))?;
     if is_fair && is_evicted(&plain) {
         return deliver_again::<P, W, K>(system, log, number);
     }
@@ -121,12 +123,12 @@ fn deliver_again<P: Program, W: Watcher, K: History>(
     ensures { (programs : List P) → Did P.acts W.watches (one (Does (Event.Deliver number)))
         (at system.old programs log.old) result (at system.new programs log.new) }
 {
-    step(log, system, &Event::Deliver(number))?;
+    step_and_log(log, system, &Event::Deliver(number))?;
     Ok(())
 }
 
 // A core advances, and its program is told.
-fn advance<P: Program, W: Watcher, K: History>(
+fn advance_core<P: Program, W: Watcher, K: History>(
     system: &mut System<K>,
     programs: &mut [P],
     log: &mut Log<W>,
@@ -135,14 +137,14 @@ fn advance<P: Program, W: Watcher, K: History>(
     ensures { Did P.acts W.watches (one (Advances core)) (at system.old programs.old log.old) result
         (at system.new programs.new log.new) }
 {
-    let plain = step(log, system, &Event::Advance(core))?;
+    let plain = step_and_log(log, system, &Event::Advance(core))?;
     mark_advance_done(programs, log, core, &plain);
     Ok(())
 }
 
 // A core does this step of its program.
 #[inline(always)]
-pub(crate) fn do_step<P: Program, W: Watcher, K: History>(
+pub(crate) fn do_program_step<P: Program, W: Watcher, K: History>(
     system: &mut System<K>,
     programs: &mut [P],
     log: &mut Log<W>,
@@ -154,6 +156,6 @@ pub(crate) fn do_step<P: Program, W: Watcher, K: History>(
 {
     match *next {
         Step::Op(op) => make_event(system, programs, log, &Event::Issue(core, op)),
-        Step::Advance => advance(system, programs, log, core),
+        Step::Advance => advance_core(system, programs, log, core),
     }
 }

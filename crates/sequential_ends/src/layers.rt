@@ -9,15 +9,20 @@ ghost use Rattle.sequential_ends.specs.Orders.{with_turn, IsOrderOf, AreLed, Are
 ghost use Rattle.sequential_ends.specs.Layers.{with_turns, has_turn, behind, with_end, with_ends};
 
 use crate::error::LayerError;
-use crate::points::{first_list, row_with, thread_at};
+use crate::points::{row_with_received, split_first_list, thread_after_received};
 use crate::rows::Rows;
-use crate::words::performed;
+use crate::words::words_after_op;
 use litmus_reader::{Test, ThreadState};
 use physiological_order::Op;
 use std::alloc::{AllocError, Global};
 
 // Adds a row with its order, unless there are more than `room` then.
-fn add(rows: &mut Rows, row: Vec<u64>, order: Vec<u8>, room: usize) -> Result<(), LayerError>
+fn add_point_row(
+    rows: &mut Rows,
+    row: Vec<u64>,
+    order: Vec<u8>,
+    room: usize,
+) -> Result<(), LayerError>
     ensures added { OnOk result (rows.new ≡ with_ordered rows.old (row.items, order.items)) }
     ensures few { OnOk result (length rows.new ≤ room) }
     ensures many { result ≡ Err LayerError.TooMany →
@@ -32,7 +37,7 @@ fn add(rows: &mut Rows, row: Vec<u64>, order: Vec<u8>, room: usize) -> Result<()
 }
 
 // The row behind a thread's operation, with memory for so many words at first.
-fn turned(
+fn row_after_turn(
     alloc: Global,
     words: &[u64],
     lists: &[u64],
@@ -45,14 +50,14 @@ fn turned(
         lists.now ≡ packed_lists p.received → left.now ≡ packed_lists (drop t p.received) →
         IfOk result (λ row. row.items ≡ packed (turned p t op)) }
 {
-    let (after, value) = performed(alloc, words, op)?;
-    let (list, behind) = first_list(left);
+    let (after, value) = words_after_op(alloc, words, op)?;
+    let (list, behind) = split_first_list(left);
     let before = &lists[..lists.len() - left.len()];
-    row_with(alloc, capacity, &after, before, list, value, behind)
+    row_with_received(alloc, capacity, &after, before, list, value, behind)
 }
 
 // An order with a turn of this thread behind it, if orders are asked for.
-fn with_turn(
+fn order_with_turn(
     alloc: Global,
     has_orders: bool,
     order: &[u8],
@@ -71,7 +76,7 @@ fn with_turn(
 }
 
 // Adds what each thread's next operation leads to from a point, and answers whether there is one.
-fn add_turns(
+fn add_successors(
     alloc: Global,
     test: &Test,
     has_orders: bool,
@@ -96,16 +101,16 @@ fn add_turns(
         room < length (with_turns (test_of test.now) p (test_of test.now).threads points) }
     ensures small { result ≡ Err LayerError.TooMany → room < 2 ^ 63 }
 {
-    let (words, lists) = first_list(row);
+    let (words, lists) = split_first_list(row);
     let capacity = row.len() + 1;
     let mut left = lists;
     let mut moved = false;
     for thread in 0..test.threads() {
-        let (list, behind) = first_list(left);
-        if let Some(op) = thread_at(test, thread, list).next() {
-            let after = turned(alloc, words, lists, left, op, capacity)?;
-            let led = with_turn(alloc, has_orders, order, thread)?;
-            if let Err(error) = add(next, after, led, room) {
+        let (list, behind) = split_first_list(left);
+        if let Some(op) = thread_after_received(test, thread, list).next() {
+            let after = row_after_turn(alloc, words, lists, left, op, capacity)?;
+            let led = order_with_turn(alloc, has_orders, order, thread)?;
+            if let Err(error) = add_point_row(next, after, led, room) {
                 return Err(error);
             }
             moved = true;
@@ -116,16 +121,16 @@ fn add_turns(
 }
 
 // The values of the condition's names at a point.
-fn values_at(alloc: Global, test: &Test, row: &[u64]) -> Result<Vec<u64>, AllocError>
+fn values_at_point(alloc: Global, test: &Test, row: &[u64]) -> Result<Vec<u64>, AllocError>
     ensures { (p : Point) → IsRowOf (test_of test.now) p row.now →
         IfOk result (λ values. values.items ≡ values_at (test_of test.now) p) }
 {
-    let (words, lists) = first_list(row);
+    let (words, lists) = split_first_list(row);
     let mut threads: Vec<ThreadState<'_>> = Vec::new(alloc);
     let mut left = lists;
     for thread in 0..test.threads() {
-        let (list, behind) = first_list(left);
-        threads.push(thread_at(test, thread, list))?;
+        let (list, behind) = split_first_list(left);
+        threads.push(thread_after_received(test, thread, list))?;
         left = behind;
     }
     let state = test.end(&threads, words)?;
@@ -134,7 +139,7 @@ fn values_at(alloc: Global, test: &Test, row: &[u64]) -> Result<Vec<u64>, AllocE
 
 // Adds what each thread's next operation leads to from a point, or to the ends what the names have there, if there is
 // no such operation.
-fn add_point(
+fn expand_point(
     alloc: Global,
     test: &Test,
     has_orders: bool,
@@ -164,12 +169,12 @@ fn add_point(
         room < length (with_turns (test_of test.now) p (test_of test.now).threads points) }
     ensures small { result ≡ Err LayerError.TooMany → room < 2 ^ 63 }
 {
-    match add_turns(alloc, test, has_orders, row, order, next, room) {
+    match add_successors(alloc, test, has_orders, row, order, next, room) {
         Err(error) => return Err(error),
         Ok(true) => return Ok(()),
         Ok(false) => {}
     }
-    let values = values_at(alloc, test, row)?;
+    let values = values_at_point(alloc, test, row)?;
     ends.add(values, Vec::from_slice(alloc, order)?)?;
     Ok(())
 }
@@ -200,7 +205,7 @@ pub(crate) fn next_layer(
     let mut next = Rows::new(alloc);
     for number in 0..layer.len() {
         if let Some((row, order)) = layer.get(number) {
-            let added = add_point(alloc, test, has_orders, row, order, &mut next, ends, room);
+            let added = expand_point(alloc, test, has_orders, row, order, &mut next, ends, room);
             if let Err(error) = added {
                 return Err(error);
             }

@@ -10,7 +10,7 @@ use litmus_reader::{Test, ThreadState};
 use std::alloc::{AllocError, Global};
 
 /// The first list of a row, and the row behind it.
-pub(crate) fn first_list(row: &[u64]) -> (&[u64], &[u64])
+pub(crate) fn split_first_list(row: &[u64]) -> (&[u64], &[u64])
     ensures split { (list behind : List ℕ) → row.now ≡ length list ∷ list ++ behind →
         (result.0.now ≡ list) × (result.1.now ≡ behind) }
     ensures shorter { length result.1.now ≤ length row.now }
@@ -26,7 +26,7 @@ pub(crate) fn first_list(row: &[u64]) -> (&[u64], &[u64])
 }
 
 /// A list, behind its length.
-fn put_list(row: &mut Vec<u64>, list: &[u64]) -> Result<(), AllocError>
+fn push_list_with_length(row: &mut Vec<u64>, list: &[u64]) -> Result<(), AllocError>
     ensures { OnOk result (row.new.items ≡ row.old.items ++ length list.now ∷ list.now) }
 {
     row.push(list.len() as u64)?;
@@ -39,7 +39,7 @@ pub(crate) fn opening_row(alloc: Global, test: &Test) -> Result<Vec<u64>, AllocE
 {
     let words = opening_words(alloc, test)?;
     let mut row = Vec::new(alloc);
-    put_list(&mut row, &words)?;
+    push_list_with_length(&mut row, &words)?;
     for _ in 0..test.threads() {
         row.push(0)?;
     }
@@ -48,7 +48,7 @@ pub(crate) fn opening_row(alloc: Global, test: &Test) -> Result<Vec<u64>, AllocE
 
 /// A row with one value more in one of its lists: the words, the lists before it, the list, the value and what is
 /// behind the list. It has memory for `capacity` words at first.
-pub(crate) fn row_with(
+pub(crate) fn row_with_received(
     alloc: Global,
     capacity: usize,
     words: &[u64],
@@ -61,7 +61,7 @@ pub(crate) fn row_with(
         ++ (length list.now + 1) ∷ list.now ++ value ∷ behind.now) }
 {
     let mut row = Vec::with_capacity(alloc, capacity)?;
-    put_list(&mut row, words)?;
+    push_list_with_length(&mut row, words)?;
     row.extend_from_slice(before)?;
     row.push(list.len() as u64 + 1)?;
     row.extend_from_slice(list)?;
@@ -71,7 +71,11 @@ pub(crate) fn row_with(
 }
 
 /// A thread once its first operations received these values.
-pub(crate) fn thread_at<'a>(test: &'a Test, thread: usize, received: &[u64]) -> ThreadState<'a>
+pub(crate) fn thread_after_received<'a>(
+    test: &'a Test,
+    thread: usize,
+    received: &[u64],
+) -> ThreadState<'a>
     requires { thread < 16 }
     ensures { result ≡ resumed (thread_started (test_of test.now) thread) received.now }
 {

@@ -34,7 +34,7 @@ const COUNTS: &[(&str, usize, usize, u64)] = &[
 ];
 
 // Whether so many ends and states are told.
-fn are_told(alloc: Global, text: &str, most: usize, ends: usize, states: u64) -> bool {
+fn ends_and_states_match(alloc: Global, text: &str, most: usize, ends: usize, states: u64) -> bool {
     let Ok(test) = read(alloc, text.as_bytes()) else {
         return false;
     };
@@ -48,7 +48,10 @@ fn are_told(alloc: Global, text: &str, most: usize, ends: usize, states: u64) ->
 #[test]
 fn ends_and_states_are_counted(rt: HostRuntime) -> Result<(), Fail> {
     for (text, most, ends, states) in COUNTS {
-        assert!(rt; are_told(rt.alloc(), text, *most, *ends, *states), "{most}");
+        assert!(rt;
+            ends_and_states_match(rt.alloc(), text, *most, *ends, *states),
+            "{most}"
+        );
     }
     Ok(())
 }

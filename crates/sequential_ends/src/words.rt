@@ -47,7 +47,11 @@ fn set_word(words: &mut Vec<u64>, address: WordAddr, value: u64) -> Result<(), A
 }
 
 /// The words after an operation, and what it receives.
-pub(crate) fn performed(alloc: Global, words: &[u64], op: Op) -> Result<(Vec<u64>, u64), AllocError>
+pub(crate) fn words_after_op(
+    alloc: Global,
+    words: &[u64],
+    op: Op,
+) -> Result<(Vec<u64>, u64), AllocError>
     ensures { IfOk result (λ r. (r.0.items ≡ words_after words.now op)
         × (r.1 ≡ value_for words.now op)) }
 {

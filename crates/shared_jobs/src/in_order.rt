@@ -4,7 +4,7 @@ ghost use Rattle.shared_jobs.specs.Results.{AllGiven, AreGiven, HasOtherFront, n
 ghost use Rattle.shared_jobs.specs.Teams.{HasEnded};
 
 use crate::gate::Gate;
-use crate::jobs::{Jobs, run_left};
+use crate::jobs::{Jobs, run_undone_job};
 use crate::workers::Worker;
 use std::alloc::AllocError;
 use std::collections::VecDeque;
@@ -12,7 +12,7 @@ use std::collections::VecDeque;
 /// The results of the jobs 0 to `count - 1`, in this order, one after the other in a list that has room for them alone.
 /// All workers have stopped. If none has a job's result in front, the call runs the job. AllocError if memory for such
 /// a job can't be allocated.
-pub fn in_order<X: Drop, S: Drop, J: Jobs<X, S>, G: Gate>(
+pub fn results_in_order<X: Drop, S: Drop, J: Jobs<X, S>, G: Gate>(
     jobs: &J,
     gate: &G,
     count: u64,
@@ -28,10 +28,10 @@ pub fn in_order<X: Drop, S: Drop, J: Jobs<X, S>, G: Gate>(
 {
     let mut state = None;
     for number in 0..count {
-        let result = match take_one(jobs, team.as_mut_slice(), number) {
+        let result = match take_job_result(jobs, team.as_mut_slice(), number) {
             Some(result) => result,
             None => {
-                let (result, next) = run_left(jobs, gate, team.as_slice(), state, number)?;
+                let (result, next) = run_undone_job(jobs, gate, team.as_slice(), state, number)?;
                 state = Some(next);
                 result
             }
@@ -42,7 +42,7 @@ pub fn in_order<X: Drop, S: Drop, J: Jobs<X, S>, G: Gate>(
 }
 
 // Takes the result of the job of this number from the worker in whose front it stands.
-fn take_one<X: Drop, S: Drop, J: Jobs<X, S>>(
+fn take_job_result<X: Drop, S: Drop, J: Jobs<X, S>>(
     jobs: &J,
     team: &mut [Worker<X>],
     number: u64,
@@ -53,7 +53,7 @@ fn take_one<X: Drop, S: Drop, J: Jobs<X, S>>(
     ensures missing { result ≡ None → All (λ w. HasOtherFront number w.results.items) team.new }
 {
     for at in 0..team.len() {
-        if let Some(result) = take_front(&mut team[at].results, number) {
+        if let Some(result) = take_front_result(&mut team[at].results, number) {
             return Some(result);
         }
     }
@@ -61,7 +61,7 @@ fn take_one<X: Drop, S: Drop, J: Jobs<X, S>>(
 }
 
 // Takes the result in front, if it is of the job of this number.
-fn take_front<X: Drop>(results: &mut VecDeque<(u64, X)>, number: u64) -> Option<X>
+fn take_front_result<X: Drop>(results: &mut VecDeque<(u64, X)>, number: u64) -> Option<X>
     ensures taken { results.old.items ≡ numbered_result number result ++ results.new.items }
     ensures missing { result ≡ None → HasOtherFront number results.old.items }
 {

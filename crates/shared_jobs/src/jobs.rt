@@ -28,7 +28,7 @@ pub trait Jobs<X, S> {
 }
 
 /// Runs the job of this number between the calls of the gate.
-pub fn run_one<X: Drop, S: Drop, J: Jobs<X, S>, G: Gate>(
+pub fn run_job_at_gate<X: Drop, S: Drop, J: Jobs<X, S>, G: Gate>(
     jobs: &J,
     gate: &G,
     state: S,
@@ -46,7 +46,7 @@ pub fn run_one<X: Drop, S: Drop, J: Jobs<X, S>, G: Gate>(
 
 /// Runs the job of this number, whose result no worker has in front, by the state that there is, or by one that the
 /// call opens.
-pub fn run_left<X: Drop, S: Drop, J: Jobs<X, S>, G: Gate>(
+pub fn run_undone_job<X: Drop, S: Drop, J: Jobs<X, S>, G: Gate>(
     jobs: &J,
     gate: &G,
     _team: &[Worker<X>],
@@ -62,5 +62,5 @@ pub fn run_left<X: Drop, S: Drop, J: Jobs<X, S>, G: Gate>(
         Some(state) => state,
         None => jobs.open()?,
     };
-    run_one(jobs, gate, state, number)
+    run_job_at_gate(jobs, gate, state, number)
 }

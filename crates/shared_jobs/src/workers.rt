@@ -8,7 +8,7 @@ ghost use Rattle.shared_jobs.specs.Results.{AllGiven, AreOfJobsBelow};
 ghost use Rattle.shared_jobs.specs.Teams.{HasDone, HasEnded, HasStopped, IsAtWork, IsNewWorker};
 
 use crate::gate::Gate;
-use crate::jobs::{Jobs, run_one};
+use crate::jobs::{Jobs, run_job_at_gate};
 use drawn_numbers::{Drawer, Numbers};
 use std::alloc::AllocError;
 use std::collections::VecDeque;
@@ -36,7 +36,7 @@ pub enum Stop {
 /// Claims jobs and runs them, until it draws a number that is no job's. If an allocation fails, the worker stops
 /// sooner. The job at which that happens, if it had claimed one, is left undone. Each other job that it claimed has its
 /// result in the worker's list, in the order in which they were claimed.
-pub fn work<X: Drop, S: Drop, J: Jobs<X, S>, G: Gate>(
+pub fn work_on_jobs<X: Drop, S: Drop, J: Jobs<X, S>, G: Gate>(
     numbers: &Numbers,
     jobs: &J,
     gate: &G,
@@ -117,7 +117,7 @@ fn run_claimed_job<X: Drop, S: Drop, J: Jobs<X, S>, G: Gate>(
     ensures drawer { worker.new.drawer ≡ worker.old.drawer }
     ensures ready { IfOk result (J.ready jobs.now) }
 {
-    let (result, next) = run_one(jobs, gate, state, number)?;
+    let (result, next) = run_job_at_gate(jobs, gate, state, number)?;
     worker.results.push_back_reserved((number, result));
     Ok(next)
 }

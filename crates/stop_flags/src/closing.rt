@@ -17,15 +17,15 @@ impl Signals {
     {
         let Signals { table, .. } = self;
         let last = signalers.pop();
-        let mut seat = leave(last.unwrap());
-        join_all(&table.shared, &mut seat, signalers);
+        let mut seat = seat_of_signaler(last.unwrap());
+        join_signalers(&table.shared, &mut seat, signalers);
         let closed = table.close_with(seat);
         closed.free();
     }
 }
 
 // Joins signalers from the last to the first.
-fn join_all(table: &FlagTable, seat: &mut FlagSeat, mut signalers: Vec<Signaler>)
+fn join_signalers(table: &FlagTable, seat: &mut FlagSeat, mut signalers: Vec<Signaler>)
     requires table { Belongs seat.old.table_id table.now.table_id table.now.key }
     requires signalers { AllAt table.now.table_id signalers.items }
     requires live { seat.old.me.0.spent ≡ false }
@@ -33,13 +33,13 @@ fn join_all(table: &FlagTable, seat: &mut FlagSeat, mut signalers: Vec<Signaler>
     ensures met { seat.new.me ≡ (knows_all seat.old.me.0 signalers.items, seat.old.me.1) }
 {
     while let Some(signaler) = signalers.pop() {
-        let other = leave(signaler);
+        let other = seat_of_signaler(signaler);
         join_view(table, seat, other);
     }
 }
 
 // The signaler's seat at the table.
-fn leave(signaler: Signaler) -> FlagSeat
+fn seat_of_signaler(signaler: Signaler) -> FlagSeat
     ensures { result ≡ signaler.seat }
 {
     let Signaler { seat, .. } = signaler;

@@ -17,14 +17,14 @@ pub fn open_signals(alloc: Global, workers: u32) -> Result<(Signals, Vec<Signale
     ensures { IfOk result (λ r. (r.0.workers ≡ workers) × (length r.1.items ≡ workers) ×
         AreNewSignalers r.0 r.1.items) }
 {
-    let (signals, mut first) = open_table(alloc, workers)?;
-    let mut all = open_others(alloc, &signals, &mut first)?;
+    let (signals, mut first) = open_flag_table(alloc, workers)?;
+    let mut all = open_other_signalers(alloc, &signals, &mut first)?;
     all.insert(0, new_signaler(first))?;
     Ok((signals, all))
 }
 
 // The table, and the first seat.
-fn open_table(alloc: Global, workers: u32) -> Result<(Signals, FlagSeat), AllocError>
+fn open_flag_table(alloc: Global, workers: u32) -> Result<(Signals, FlagSeat), AllocError>
     requires { (0 < workers) × (workers ≤ 16) }
     ensures { IfOk result (λ r. (r.0.workers ≡ workers) × HasMade r.0 1 r.1) }
 {
@@ -34,7 +34,7 @@ fn open_table(alloc: Global, workers: u32) -> Result<(Signals, FlagSeat), AllocE
 }
 
 // All signalers but the first.
-fn open_others(
+fn open_other_signalers(
     alloc: Global,
     signals: &Signals,
     first: &mut FlagSeat,

@@ -22,7 +22,7 @@ impl Signaler {
     ghost use Rattle.stop_flags.specs.Signalers.{IsSignalerOf, last_look, number_of};
 
     /// Signals that one more program is finished, by one addition to the word that counts them.
-    pub fn finish(&mut self, signals: &Signals) -> Result<(), TooMany>
+    pub fn finish_program(&mut self, signals: &Signals) -> Result<(), TooMany>
         requires { IsSignalerOf signals.now self.old }
         ensures signaler { IsSignalerOf signals.now self.new }
         ensures kept { (number_of self.new ≡ number_of self.old) ×
@@ -41,7 +41,7 @@ impl Signaler {
     }
 
     /// Signals that a seat has stopped. Further calls are allowed.
-    pub fn stop(&mut self, signals: &Signals)
+    pub fn signal_stop(&mut self, signals: &Signals)
         requires { IsSignalerOf signals.now self.old }
         ensures signaler { IsSignalerOf signals.now self.new }
         ensures kept { (number_of self.new ≡ number_of self.old) ×
@@ -54,7 +54,7 @@ impl Signaler {
 
     /// Reads how many programs are finished, and whether some seat has stopped. It reads the two words one after the
     /// other.
-    pub fn look(&mut self, signals: &Signals) -> Look
+    pub fn read_signals(&mut self, signals: &Signals) -> Look
         requires { IsSignalerOf signals.now self.old }
         ensures signaler { IsSignalerOf signals.now self.new × (self.new.said ≡ self.old.said) }
         ensures kept { (number_of self.new ≡ number_of self.old) × (last_look self.new ≡ result) }

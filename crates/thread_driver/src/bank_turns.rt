@@ -3,7 +3,7 @@ ghost use Rattle.std.specs.Prelude.{◌≡◌, ◌&&◌, not};
 ghost use Rattle.mailboxes.specs.Seats.{IsBankSeat};
 ghost use Rattle.thread_driver.specs.Turns.{BankHad, BankHadFairTurn, BankHadTurn, RoomMadeIf, has_moved};
 
-use crate::told::{Told, has_moved, told_of_turn};
+use crate::told::{Told, has_moved_messages, told_of_turn};
 use machine_table::Refusal;
 use mailboxes::{BankSeat, Machine, Turn};
 use shared_jobs::Begun;
@@ -49,15 +49,15 @@ pub(crate) fn any_bank_turn(
     let was_stopped = seat.is_stopped();
     make_room(machine, seat, !fair);
     let moved = seat.turn(machine);
-    make_room(machine, seat, is_due(fair, moved));
+    make_room(machine, seat, room_is_due(fair, moved));
     told_of_turn(was_stopped, seat.is_stopped(), moved)
 }
 
 // Whether room is made after the seat's own turn: in a fair turn, if that made no progress.
-fn is_due(fair: bool, moved: Result<Turn, Refusal>) -> bool
+fn room_is_due(fair: bool, moved: Result<Turn, Refusal>) -> bool
     ensures { result ≡ (fair && not (has_moved moved)) }
 {
-    fair && !has_moved(moved)
+    fair && !has_moved_messages(moved)
 }
 
 // If that is due, evicts the line that makes room for the oldest held request that waits for room, if there is one.

@@ -6,7 +6,9 @@ ghost use Rattle.thread_driver.specs.Playing.{IsAhead, Plays, SameWork};
 ghost use Rattle.thread_driver.specs.Turns.{AfterRefusal, CoreHadTurn, OpIssued, OpenTried, StepDone, TimeAdvanced};
 ghost use Rattle.thread_driver.specs.Turns.{told_of};
 
-use crate::seat_calls::{advance, attempt, issue, make_place, turn};
+use crate::seat_calls::{
+    advance, attempt_open_op, core_seat_turn, evict_seat_copy_for_place, issue,
+};
 use crate::told::{Told, told_of_turn};
 use machine_table::Refusal;
 use mailboxes::{CoreSeat, Machine, Turn};
@@ -35,8 +37,8 @@ pub fn core_turn<P: Program>(
 {
     let was_stopped = seat.is_stopped();
     let done = do_next_step(machine, seat, program);
-    let moved = turn(machine, seat);
-    told_of(was_stopped, seat.is_stopped(), done, moved)
+    let moved = core_seat_turn(machine, seat);
+    told_of_core_turn(was_stopped, seat.is_stopped(), done, moved)
 }
 
 /// Whether a core's seat has no open operation and its program no next step.
@@ -60,7 +62,7 @@ fn do_next_step<P: Program>(
         seat.old program.old result seat.new program.new }
 {
     if seat.open_op().is_some() {
-        return try_open(machine, seat, program);
+        return attempt_for_program(machine, seat, program);
     }
     match program.next() {
         None => Ok(false),
@@ -107,7 +109,7 @@ fn issue_next<P: Program>(
         seat.old program.old result seat.new program.new }
 {
     match issue(machine, seat, op) {
-        Ok(()) => try_open(machine, seat, program),
+        Ok(()) => attempt_for_program(machine, seat, program),
         Err(refusal) => Err(refusal),
     }
 }
@@ -115,7 +117,7 @@ fn issue_next<P: Program>(
 // Attempts the open operation, and tells the program if it is completed. If there is no place for its line, a copy
 // goes.
 #[inline(always)]
-fn try_open<P: Program>(
+fn attempt_for_program<P: Program>(
     machine: &Machine,
     seat: &mut CoreSeat,
     program: &mut P,
@@ -126,7 +128,7 @@ fn try_open<P: Program>(
     ensures plays { Plays P.acts seat.old program.old seat.new program.new }
     ensures step { OpenTried P.acts machine.now seat.old program.old result seat.new program.new }
 {
-    match attempt(machine, seat) {
+    match attempt_open_op(machine, seat) {
         Ok(None) => Ok(false),
         Ok(Some(done)) => {
             program.done(done.received);
@@ -147,7 +149,7 @@ fn handle_refusal(machine: &Machine, seat: &mut CoreSeat, refusal: Refusal) -> R
 {
     match refusal {
         Refusal::NoRoom => {
-            make_place(machine, seat);
+            evict_seat_copy_for_place(machine, seat);
             Ok(false)
         }
         _ => Err(refusal),
@@ -155,7 +157,7 @@ fn handle_refusal(machine: &Machine, seat: &mut CoreSeat, refusal: Refusal) -> R
 }
 
 // What a core's turn tells: whether it stopped, what its step came to, and the turn of its seat.
-fn told_of(
+fn told_of_core_turn(
     was_stopped: bool,
     is_stopped: bool,
     done: Result<bool, Refusal>,

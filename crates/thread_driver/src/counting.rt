@@ -9,7 +9,7 @@ use mailboxes::CoreSeat;
 use programs::program::Program;
 
 /// Whether no core has an open operation, and no program a next step.
-pub(crate) fn are_over<P: Program>(cores: &[CoreSeat], programs: &[P]) -> bool
+pub(crate) fn are_core_seats_over<P: Program>(cores: &[CoreSeat], programs: &[P]) -> bool
     requires { length programs.now ≡ length cores.now }
     ensures done { result ≡ true → AreOver P.acts cores.now programs.now }
     ensures all_done { AreOver P.acts cores.now programs.now → result ≡ true }
@@ -23,7 +23,7 @@ pub(crate) fn are_over<P: Program>(cores: &[CoreSeat], programs: &[P]) -> bool
 }
 
 /// How many cores have no open operation, and a program without a next step.
-pub(crate) fn over_count<P: Program>(cores: &[CoreSeat], programs: &[P]) -> u64
+pub(crate) fn count_core_seats_over<P: Program>(cores: &[CoreSeat], programs: &[P]) -> u64
     requires { length programs.now ≡ length cores.now }
     ensures { result ≡ over_in P.acts (zip cores.now programs.now) }
 {
@@ -35,7 +35,7 @@ pub(crate) fn over_count<P: Program>(cores: &[CoreSeat], programs: &[P]) -> u64
 }
 
 /// Whether each seat had as many turns as it may: of the first `cores` and the first `banks` of these numbers.
-pub(crate) fn all_used(
+pub(crate) fn all_turns_used(
     cores_had: &[u32],
     cores: usize,
     banks_had: &[u32],
@@ -46,11 +46,11 @@ pub(crate) fn all_used(
     ensures { result ≡ true →
         AreUsed limit cores cores_had.now × AreUsed limit banks banks_had.now }
 {
-    are_used(cores_had, cores, limit) && are_used(banks_had, banks, limit)
+    are_turns_used(cores_had, cores, limit) && are_turns_used(banks_had, banks, limit)
 }
 
 // The same of seats of one kind.
-fn are_used(had: &[u32], seats: usize, limit: u32) -> bool
+fn are_turns_used(had: &[u32], seats: usize, limit: u32) -> bool
     requires { seats ≤ length had.now }
     ensures { result ≡ true → AreUsed limit seats had.now }
 {

@@ -7,7 +7,7 @@ ghost use Rattle.thread_driver.specs.Hands.{banks_in, cores_in, programs_in};
 use crate::shift::Shift;
 use crate::told::QUIET;
 use crate::worker::{Hands, Worker};
-use round_robin::{deal, empty_hands, gather};
+use round_robin::{deal, gather, new_empty_hands};
 use std::alloc::{AllocError, Global};
 use stop_flags::Signaler;
 
@@ -23,14 +23,14 @@ pub(crate) fn open_hands<P: Drop>(
     ensures shares { IfOk result (AreRoomy shift.now) }
 {
     Ok(Hands {
-        cores: empty_hands(alloc, count, shift.cores.len())?,
-        programs: empty_hands(alloc, count, shift.programs.len())?,
-        banks: empty_hands(alloc, count, shift.banks.len())?,
+        cores: new_empty_hands(alloc, count, shift.cores.len())?,
+        programs: new_empty_hands(alloc, count, shift.programs.len())?,
+        banks: new_empty_hands(alloc, count, shift.banks.len())?,
     })
 }
 
 /// Deals all seats and programs of a shift. Banks are numbered after cores.
-pub(crate) fn deal_all<P: Drop>(shift: &mut Shift<P>, hands: &mut Hands<P>)
+pub(crate) fn deal_shift<P: Drop>(shift: &mut Shift<P>, hands: &mut Hands<P>)
     requires some { 0 < length hands.old.cores.items }
     requires hands { AreHands (length hands.old.cores.items) hands.old }
     requires shares { AreRoomy shift.old hands.old }
@@ -56,7 +56,7 @@ pub(crate) fn deal_all<P: Drop>(shift: &mut Shift<P>, hands: &mut Hands<P>)
 }
 
 /// Gathers all seats and programs from hands into the lists of a shift, which are empty and have room for them.
-pub(crate) fn gather_all<P: Drop>(
+pub(crate) fn gather_shift<P: Drop>(
     hands: Hands<P>,
     shift: &mut Shift<P>,
     cores: usize,
@@ -89,7 +89,7 @@ pub(crate) fn gather_all<P: Drop>(
 
 /// Workers, one a signaler, take what is in the hands.
 #[tactic(auto, using(crate::proofs::Formed::split_more))]
-pub(crate) fn form<P: Drop>(
+pub(crate) fn form_team<P: Drop>(
     hands: &mut Hands<P>,
     signalers: &mut Vec<Signaler>,
     team: &mut Vec<Worker<P>>,
@@ -122,7 +122,7 @@ pub(crate) fn form<P: Drop>(
 }
 
 /// Workers put what they have into the hands again, and their signalers into a list.
-pub(crate) fn disband<P: Drop>(
+pub(crate) fn disband_team<P: Drop>(
     mut team: Vec<Worker<P>>,
     hands: &mut Hands<P>,
     signalers: &mut Vec<Signaler>,

@@ -10,11 +10,11 @@ ghost use Rattle.thread_driver.specs.Shifts.{AreBanksInOrder, AreCoresInOrder, A
 ghost use Rattle.thread_driver.specs.Shifts.{Ran, RefusedAtOnce, end_told};
 ghost use Rattle.thread_driver.specs.Teams.{AllWork, AreReady, IsReady, Works, ends_all};
 
-use crate::counting::are_over;
-use crate::dealing::{deal_all, disband, form, gather_all, open_hands};
+use crate::counting::are_core_seats_over;
+use crate::dealing::{deal_shift, disband_team, form_team, gather_shift, open_hands};
 use crate::shift::Shift;
 use crate::told::Told;
-use crate::work::work;
+use crate::work::run_worker;
 use crate::worker::{Rota, Worker};
 use mailboxes::{BankSeat, CoreSeat, Machine};
 use programs::End;
@@ -116,7 +116,7 @@ pub fn drive_seats<R: Threads + Clock + Sync, P: Program + Send + Drop, G: Gate 
             shift
         }
         Ok(told) => {
-            shift.end = end_of(&shift, told);
+            shift.end = end_of_shift(&shift, told);
             shift
         }
     }
@@ -154,8 +154,8 @@ fn drive_shift<R: Threads + Clock + Sync, P: Program + Send + Drop, G: Gate + Sy
     let (signals, mut signalers) = open_signals(alloc, workers)?;
     let mut hands = open_hands(alloc, count, shift)?;
     let mut team = Vec::with_capacity(alloc, count)?;
-    deal_all(shift, &mut hands);
-    form(&mut hands, &mut signalers, &mut team);
+    deal_shift(shift, &mut hands);
+    form_team(&mut hands, &mut signalers, &mut team);
     let rota = Rota {
         programs: cores as u64,
         turns: turn_limit,
@@ -163,9 +163,9 @@ fn drive_shift<R: Threads + Clock + Sync, P: Program + Send + Drop, G: Gate + Sy
     };
     drive_team(rt, machine, &signals, gate, rota, workers, &mut team);
     let told = told_by_team(team.as_slice());
-    disband(team, &mut hands, &mut signalers);
+    disband_team(team, &mut hands, &mut signalers);
     signals.close(signalers);
-    gather_all(hands, shift, cores, programs, banks);
+    gather_shift(hands, shift, cores, programs, banks);
     Ok(told)
 }
 
@@ -191,7 +191,7 @@ fn drive_team<R: Threads + Clock + Sync, P: Program + Send + Drop, G: Gate + Syn
             requires { IsReady P.acts machine.now signals.now worker.now }
             ensures { IsSignalerOf signals.entry.now worker.exit.now.signaler ×
                 Works P.acts machine.entry.now rota worker.entry.now worker.exit.now }
-        { work(rt, machine, signals, gate, rota, worker) },
+        { run_worker(rt, machine, signals, gate, rota, worker) },
     );
 }
 
@@ -203,28 +203,28 @@ fn told_by_team<P: Drop>(team: &[Worker<P>]) -> Told
         list_any (λ w. w.told.has_progressed) team.now }
 {
     Told {
-        no_memory: lacks_memory(team),
-        is_exhausted: is_exhausted(team),
+        no_memory: team_lacks_memory(team),
+        is_exhausted: is_team_exhausted(team),
         has_progressed: team.iter().any(|worker| worker.told.has_progressed),
     }
 }
 
 // Whether a turn of a team reported that memory was refused.
-fn lacks_memory<P: Drop>(team: &[Worker<P>]) -> bool
+fn team_lacks_memory<P: Drop>(team: &[Worker<P>]) -> bool
     ensures { result ≡ list_any (λ w. w.told.no_memory) team.now }
 {
     team.iter().any(|worker| worker.told.no_memory)
 }
 
 // Whether a turn of a team reported that its seat stopped.
-fn is_exhausted<P: Drop>(team: &[Worker<P>]) -> bool
+fn is_team_exhausted<P: Drop>(team: &[Worker<P>]) -> bool
     ensures { result ≡ list_any (λ w. w.told.is_exhausted) team.now }
 {
     team.iter().any(|worker| worker.told.is_exhausted)
 }
 
 // How a shift ends, by what is left to do and what the turns told.
-fn end_of<P: Program + Drop>(shift: &Shift<P>, told: Told) -> End
+fn end_of_shift<P: Program + Drop>(shift: &Shift<P>, told: Told) -> End
     requires { length shift.now.programs.items ≡ length shift.now.cores.items }
     ensures done { result ≡ end.AllDone → AreOver P.acts shift.now.cores.items
         shift.now.programs.items }
@@ -232,7 +232,7 @@ fn end_of<P: Program + Drop>(shift: &Shift<P>, told: Told) -> End
         result ≡ end.AllDone }
     ensures otherwise { result ≢ end.AllDone → result ≡ end_told told }
 {
-    if are_over(&shift.cores, &shift.programs) {
+    if are_core_seats_over(&shift.cores, &shift.programs) {
         return End::AllDone;
     }
     if told.no_memory {

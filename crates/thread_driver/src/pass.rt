@@ -8,7 +8,7 @@ ghost use Rattle.thread_driver.specs.Playing.{AreAhead, IsAhead};
 
 use crate::bank_turns::any_bank_turn;
 use crate::core_turns::core_turn;
-use crate::told::{QUIET, Told, both};
+use crate::told::{QUIET, Told, told_by_both};
 use mailboxes::{BankSeat, CoreSeat, Machine};
 use programs::program::Program;
 use shared_jobs::{Gate, begin, end};
@@ -17,17 +17,17 @@ use shared_jobs::{Gate, begin, end};
 const IN_A_ROW: u32 = 16;
 
 /// Whether no worker goes on after this.
-pub(crate) fn ends_all(told: &Told) -> bool
+pub(crate) fn ends_all_turns(told: &Told) -> bool
     ensures { result ≡ ends_all told.now }
 {
     told.no_memory || told.is_exhausted
 }
 
 // Whether a seat has another turn at once: this one made progress, and didn't end all.
-fn is_followed(told: &Told) -> bool
+fn has_another_turn(told: &Told) -> bool
     ensures { result ≡ is_followed told.now }
 {
-    told.has_progressed && !ends_all(told)
+    told.has_progressed && !ends_all_turns(told)
 }
 
 // How many turns a seat has had at most, after `had` of them, before the next seat has its own.
@@ -38,7 +38,7 @@ fn row_end(had: u32, limit: u32) -> u32
 }
 
 // The turns of a core's seat in a row, each between the calls of the gate, and how many it has had then.
-fn core_row<P: Program, G: Gate>(
+fn core_turns_in_row<P: Program, G: Gate>(
     machine: &Machine,
     gate: &G,
     seat: &mut CoreSeat,
@@ -58,9 +58,9 @@ fn core_row<P: Program, G: Gate>(
         let begun = begin(gate, u64::from(seat.number()), u64::from(turn));
         let told = core_turn(machine, &begun, seat, program);
         end(gate, begun);
-        all = both(all, told);
+        all = told_by_both(all, told);
         has = turn + 1;
-        if !is_followed(&told) {
+        if !has_another_turn(&told) {
             return (all, has);
         }
     }
@@ -90,11 +90,11 @@ pub(crate) fn core_pass<P: Program, G: Gate>(
 {
     let mut all = QUIET;
     for i in 0..cores.len() {
-        if ends_all(&all) {
+        if ends_all_turns(&all) {
             break;
         }
         let before = had[i];
-        let (told, has) = core_row(
+        let (told, has) = core_turns_in_row(
             machine,
             gate,
             &mut cores[i],
@@ -103,13 +103,13 @@ pub(crate) fn core_pass<P: Program, G: Gate>(
             limit,
         );
         had[i] = has;
-        all = both(all, told);
+        all = told_by_both(all, told);
     }
     all
 }
 
 // The turns of a bank's seat in a row, likewise, fair or not.
-fn bank_row<G: Gate>(
+fn bank_turns_in_row<G: Gate>(
     machine: &Machine,
     gate: &G,
     seat: &mut BankSeat,
@@ -129,9 +129,9 @@ fn bank_row<G: Gate>(
         let begun = begin(gate, number, u64::from(turn));
         let told = any_bank_turn(machine, &begun, seat, fair);
         end(gate, begun);
-        all = both(all, told);
+        all = told_by_both(all, told);
         has = turn + 1;
-        if !is_followed(&told) {
+        if !has_another_turn(&told) {
             return (all, has);
         }
     }
@@ -156,13 +156,13 @@ pub(crate) fn bank_pass<G: Gate>(
 {
     let mut all = QUIET;
     for i in 0..banks.len() {
-        if ends_all(&all) {
+        if ends_all_turns(&all) {
             break;
         }
         let before = had[i];
-        let (told, has) = bank_row(machine, gate, &mut banks[i], before, limit, fair);
+        let (told, has) = bank_turns_in_row(machine, gate, &mut banks[i], before, limit, fair);
         had[i] = has;
-        all = both(all, told);
+        all = told_by_both(all, told);
     }
     all
 }

@@ -34,7 +34,10 @@ pub(crate) fn advance(machine: &Machine, seat: &mut CoreSeat) -> Result<(), Refu
 
 /// Attempts the open operation: the record if it is completed, none if it waits, or why it was refused.
 #[inline(always)]
-pub(crate) fn attempt(machine: &Machine, seat: &mut CoreSeat) -> Result<Option<Record>, Refusal>
+pub(crate) fn attempt_open_op(
+    machine: &Machine,
+    seat: &mut CoreSeat,
+) -> Result<Option<Record>, Refusal>
     requires seat { IsCoreSeat machine.now seat.old }
     ensures seat { IsCoreSeat machine.now seat.new }
     ensures work { AttemptsWork result seat.old seat.new }
@@ -48,7 +51,7 @@ pub(crate) fn attempt(machine: &Machine, seat: &mut CoreSeat) -> Result<Option<R
 }
 
 /// Evicts the copy that makes room for the line of the open operation.
-pub(crate) fn make_place(machine: &Machine, seat: &mut CoreSeat)
+pub(crate) fn evict_seat_copy_for_place(machine: &Machine, seat: &mut CoreSeat)
     requires seat { IsCoreSeat machine.now seat.old }
     ensures seat { IsCoreSeat machine.now seat.new }
     ensures work { SameWork seat.old seat.new }
@@ -65,7 +68,7 @@ pub(crate) fn make_place(machine: &Machine, seat: &mut CoreSeat)
 }
 
 /// Puts, serves and takes messages.
-pub(crate) fn turn(machine: &Machine, seat: &mut CoreSeat) -> Result<Turn, Refusal>
+pub(crate) fn core_seat_turn(machine: &Machine, seat: &mut CoreSeat) -> Result<Turn, Refusal>
     requires seat { IsCoreSeat machine.now seat.old }
     ensures seat { IsCoreSeat machine.now seat.new }
     ensures work { SameWork seat.old seat.new }

@@ -26,7 +26,7 @@ pub(crate) const QUIET: Told = Told {
 };
 
 /// What two turns report together.
-pub(crate) fn both(first: Told, second: Told) -> Told
+pub(crate) fn told_by_both(first: Told, second: Told) -> Told
     ensures { result ≡ told_by_both first second }
 {
     Told {
@@ -47,12 +47,12 @@ pub(crate) fn told_of_turn(
     Told {
         no_memory: matches!(moved, Err(Refusal::NoMemory)),
         is_exhausted: is_stopped && !was_stopped,
-        has_progressed: has_moved(moved),
+        has_progressed: has_moved_messages(moved),
     }
 }
 
 /// Whether messages were put, or one was served.
-pub(crate) fn has_moved(moved: Result<Turn, Refusal>) -> bool
+pub(crate) fn has_moved_messages(moved: Result<Turn, Refusal>) -> bool
     ensures { result ≡ has_moved moved }
 {
     match moved {

@@ -8,9 +8,9 @@ ghost use Rattle.thread_driver.specs.Playing.{AreAhead};
 ghost use Rattle.thread_driver.specs.Teams.{FoundEnd, FoundNoEnd, HasCounts, HasUsedAll, IsReady, SeatsPassed, Works};
 ghost use Rattle.thread_driver.specs.Teams.{over_in, rested};
 
-use crate::counting::{all_used, over_count};
-use crate::pass::{bank_pass, core_pass, ends_all};
-use crate::told::{QUIET, Told, both};
+use crate::counting::{all_turns_used, count_core_seats_over};
+use crate::pass::{bank_pass, core_pass, ends_all_turns};
+use crate::told::{QUIET, Told, told_by_both};
 use crate::worker::{Rota, Worker};
 use mailboxes::{CoreSeat, Machine};
 use programs::program::Program;
@@ -28,7 +28,7 @@ const REST: u64 = 50;
 
 /// Gives the worker's seats turns, one pass after the other, until all programs are done, its seats had their most
 /// turns, or some seat lacked memory or stopped. Then it has signaled a stop exactly if that was a seat of its own.
-pub(crate) fn work<R: Clock, P: Program + Drop, G: Gate>(
+pub(crate) fn run_worker<R: Clock, P: Program + Drop, G: Gate>(
     rt: &R,
     machine: &Machine,
     signals: &Signals,
@@ -45,7 +45,7 @@ pub(crate) fn work<R: Clock, P: Program + Drop, G: Gate>(
     let mut banks_had = [0; SEATS];
     let mut idle = 0;
     for _ in 0..rota.turns {
-        let passed = pass(
+        let passed = worker_pass(
             machine,
             signals,
             gate,
@@ -60,8 +60,8 @@ pub(crate) fn work<R: Clock, P: Program + Drop, G: Gate>(
         let (all, passes, is_due) = after_pass(worker.told, idle, told);
         worker.told = all;
         idle = passes;
-        if ends_all(&told) {
-            worker.signaler.stop(signals);
+        if ends_all_turns(&told) {
+            worker.signaler.signal_stop(signals);
             return;
         }
         if is_due && signals.workers > 1 {
@@ -82,7 +82,7 @@ fn after_pass(all: Told, idle: u8, told: Told) -> (Told, u8, bool)
     ensures told { result.0 ≡ told_by_both all told }
     ensures idle { (result.1, result.2) ≡ rested idle told.has_progressed }
 {
-    let all = both(all, told);
+    let all = told_by_both(all, told);
     if told.has_progressed {
         return (all, 0, false);
     }
@@ -94,7 +94,7 @@ fn after_pass(all: Told, idle: u8, told: Told) -> (Told, u8, bool)
 
 // Tells which programs are finished, and looks. If that finds no end, and turns are left, each seat of the worker has
 // turns. The lists say how many turns each core's seat and each bank's has had.
-fn pass<P: Program + Drop, G: Gate>(
+fn worker_pass<P: Program + Drop, G: Gate>(
     machine: &Machine,
     signals: &Signals,
     gate: &G,
@@ -136,17 +136,17 @@ fn pass<P: Program + Drop, G: Gate>(
         &worker.cores,
         &worker.programs,
     );
-    let look = worker.signaler.look(signals);
+    let look = worker.signaler.read_signals(signals);
     if look.is_stopped || look.finished >= rota.programs {
         return None;
     }
     let (cores, banks) = (worker.cores.len(), worker.banks.len());
-    if all_used(cores_had, cores, banks_had, banks, rota.turns) {
+    if all_turns_used(cores_had, cores, banks_had, banks, rota.turns) {
         return None;
     }
     let (cores, programs) = (&mut worker.cores, &mut worker.programs);
     let told = core_pass(machine, gate, cores, programs, cores_had, rota.turns);
-    if ends_all(&told) {
+    if ends_all_turns(&told) {
         return Some(told);
     }
     let banks = bank_pass(
@@ -157,7 +157,7 @@ fn pass<P: Program + Drop, G: Gate>(
         rota.turns,
         rota.fair,
     );
-    Some(both(told, banks))
+    Some(told_by_both(told, banks))
 }
 
 // Signals each program that was finished since: then so many are signalled as are over.
@@ -177,8 +177,8 @@ fn signal_finished_programs<P: Program>(
         (last_look signaler.new ≡ last_look signaler.old) ×
         (signaler.new.said.stops ≡ signaler.old.said.stops) }
 {
-    let over = over_count(cores, programs);
+    let over = count_core_seats_over(cores, programs);
     for _ in signaler.said.finished..over {
-        let _finished = signaler.finish(signals);
+        let _finished = signaler.finish_program(signals);
     }
 }

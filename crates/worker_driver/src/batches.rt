@@ -8,7 +8,7 @@ ghost use Rattle.worker_driver.specs.declared.set_up.Driver.TheVariants.{ByPolic
 ghost use Rattle.worker_driver.specs.Outcomes.{HasOutcome};
 ghost use Rattle.worker_driver.specs.Runs.{AreFrom};
 
-use crate::one_run::{open_again, run_opened};
+use crate::one_run::{reopen_test_machine, run_opened_test};
 use crate::shared_runs::SharedRuns;
 use interleaving_core::Config;
 use litmus_reader::Test;
@@ -111,8 +111,8 @@ pub fn policy_runs(
     let mut runs = Vec::new(alloc);
     let mut kept = None;
     for number in 0..count {
-        let mut system = open_again(kept, alloc, test, config)?;
-        let run = run_opened(alloc, test, &mut system, first.of_run(number), limit)?;
+        let mut system = reopen_test_machine(kept, alloc, test, config)?;
+        let run = run_opened_test(alloc, test, &mut system, first.of_run(number), limit)?;
         runs.push(run)?;
         kept = Some(system);
     }

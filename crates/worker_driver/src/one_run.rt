@@ -10,7 +10,7 @@ ghost use Rattle.worker_driver.specs.Outcomes.{HasOutcome};
 ghost use Rattle.worker_driver.specs.Runs.{IsRun};
 
 use crate::run_end::run_end;
-use crate::threads::start_threads;
+use crate::threads::initial_thread_states;
 use interleaving_core::{Config, System};
 use litmus_reader::Test;
 use machine_theorem::laws::every_history_is_legal;
@@ -20,7 +20,11 @@ use sequential_machine::laws::performed_histories_are_sequential;
 use std::alloc::{AllocError, Global};
 
 /// A machine with this set-up that opens with the test's memory.
-pub(crate) fn open(alloc: Global, test: &Test, config: Config) -> Result<System, AllocError>
+pub(crate) fn open_test_machine(
+    alloc: Global,
+    test: &Test,
+    config: Config,
+) -> Result<System, AllocError>
     requires { is_good config ≡ true }
     ensures { IfOk result (λ system. system ≡ at_start config
         (words_opened (test_of test.now).items empty)) }
@@ -33,7 +37,7 @@ pub(crate) fn open(alloc: Global, test: &Test, config: Config) -> Result<System,
 }
 
 /// The machine of an earlier run, or else a new one, opened with the test's memory.
-pub(crate) fn open_again(
+pub(crate) fn reopen_test_machine(
     kept: Option<System>,
     alloc: Global,
     test: &Test,
@@ -46,13 +50,13 @@ pub(crate) fn open_again(
 {
     match kept {
         Some(system) => Ok(system.reopen(test.opening()?)?),
-        None => open(alloc, test, config),
+        None => open_test_machine(alloc, test, config),
     }
 }
 
 /// A run of the test by this policy, with at most `limit` turns, on a machine that has just opened with the test's
 /// memory. The end state of a run that is all done is an outcome of the sequential machine. The configuration stays.
-pub(crate) fn run_opened(
+pub(crate) fn run_opened_test(
     alloc: Global,
     test: &Test,
     system: &mut System,
@@ -70,7 +74,7 @@ pub(crate) fn run_opened(
 {
     every_history_is_legal();
     performed_histories_are_sequential();
-    let mut started = start_threads(alloc, test)?;
+    let mut started = initial_thread_states(alloc, test)?;
     let threads = started.as_mut_slice();
     let end = run_to_end(alloc, system, threads, policy, limit);
     run_end(alloc, test, end, threads, system)

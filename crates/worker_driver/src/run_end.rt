@@ -48,7 +48,7 @@ fn end_state<M: Finished>(
 {
     match end {
         End::AllDone => {
-            let memory = values(alloc, test.locations(), machine)?;
+            let memory = first_word_values(alloc, test.locations(), machine)?;
             Ok(Some(test.end(threads, &memory)?))
         }
         _ => Ok(None),
@@ -56,17 +56,21 @@ fn end_state<M: Finished>(
 }
 
 // The values of the first words, where they stand.
-fn values<M: Finished>(alloc: Global, count: usize, machine: &M) -> Result<Vec<u64>, AllocError>
+fn first_word_values<M: Finished>(
+    alloc: Global,
+    count: usize,
+    machine: &M,
+) -> Result<Vec<u64>, AllocError>
     requires { count ≤ 64 }
     ensures { IfOk result (λ values. (m : Machine) → M.shows machine.now m →
         values.items ≡ values_from m 0 count) }
 {
-    let words = first_words(alloc, count)?;
+    let words = first_word_addresses(alloc, count)?;
     machine.values(alloc, &words)
 }
 
 // The first words, by rising address.
-fn first_words(alloc: Global, count: usize) -> Result<Vec<WordAddr>, AllocError>
+fn first_word_addresses(alloc: Global, count: usize) -> Result<Vec<WordAddr>, AllocError>
     requires { count ≤ 64 }
     ensures { IfOk result (λ words. (m : Machine) →
         map (coherent m) words.items ≡ values_from m 0 count) }

@@ -14,7 +14,7 @@ pub fn config_of(options: &MachineOptions, cores: u32) -> Option<Config>
         (config ≡ config_of options.now cores) × (is_good config ≡ true)) }
     ensures bad { result ≡ None → is_good (config_of options.now cores) ≡ false }
 {
-    if !fits(options) {
+    if !part_counts_fit(options) {
         return None;
     }
     let config = Config {
@@ -34,7 +34,7 @@ pub fn config_of(options: &MachineOptions, cores: u32) -> Option<Config>
 }
 
 // Whether no number of a machine's parts is past what any machine has.
-fn fits(options: &MachineOptions) -> bool
+fn part_counts_fit(options: &MachineOptions) -> bool
     ensures { result ≡ has_small_parts options.now }
 {
     options.banks <= 65_536

@@ -3,7 +3,7 @@ ghost use Rattle.std.specs.Prelude.{◌≡◌, true};
 ghost use Rattle.litmus_reader.specs.TestViews.{test_of};
 ghost use Rattle.machine_table.specs.SetUp.{is_good};
 
-use crate::one_run::{open, run_opened};
+use crate::one_run::{open_test_machine, run_opened_test};
 use interleaving_core::{Config, System};
 use litmus_reader::Test;
 use report_text::RunEnd;
@@ -34,13 +34,13 @@ impl Jobs<RunEnd, System> for SharedRuns<'_> {
     ghost ready = { λ runs system. system.config ≡ runs.config };
 
     fn open(&self) -> Result<System, AllocError> {
-        open(self.alloc, self.test, self.config)
+        open_test_machine(self.alloc, self.test, self.config)
     }
 
     fn run(&self, begun: &Begun, state: System) -> Result<(RunEnd, System), AllocError> {
         let mut system = state.reopen(self.test.opening()?)?;
         let policy = self.first.of_run(begun.seat());
-        let run = run_opened(self.alloc, self.test, &mut system, policy, self.limit)?;
+        let run = run_opened_test(self.alloc, self.test, &mut system, policy, self.limit)?;
         Ok((run, system))
     }
 }

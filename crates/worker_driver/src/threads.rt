@@ -73,7 +73,7 @@ fn threaded_run<R: Threads + Clock + Sync, G: Gate + Sync>(
     closed_machines_are_consistent();
     performed_histories_are_sequential();
     let memory = test.opening()?;
-    let threads = start_threads(alloc, test)?;
+    let threads = initial_thread_states(alloc, test)?;
     let ran = run_seats(
         rt, alloc, config, memory, threads, workers, limit, fair, gate,
     )?;
@@ -81,7 +81,7 @@ fn threaded_run<R: Threads + Clock + Sync, G: Gate + Sync>(
 }
 
 /// The threads as the test opens them.
-pub(crate) fn start_threads<'a>(
+pub(crate) fn initial_thread_states<'a>(
     alloc: Global,
     test: &'a Test,
 ) -> Result<Vec<ThreadState<'a>>, AllocError>

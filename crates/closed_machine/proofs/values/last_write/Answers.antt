@@ -9,6 +9,6 @@ loop-record-preserved c =
     let rs = c.args.records.now in
     let i = c.loop-record.record-index in
     let r : Record = c.record-item.result in
-    subst (λ (done : List Record). IsLast c.args.addr done c.with_record-last.result)
+    subst (λ (done : List Record). IsLast c.args.addr done c.last_write_with_record-last.result)
     (sym (take_more rs i r c.loop-record-test.true ∙ ap (λ (x : Record). take i rs ++ x ∷ []) (sym c.record-item.is)))
-    (c.with_record-last.ensures (take i rs) c.loop-record.invariant)
+    (c.last_write_with_record-last.ensures (take i rs) c.loop-record.invariant)

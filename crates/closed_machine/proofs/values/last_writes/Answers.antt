@@ -13,9 +13,9 @@ loop-record-preserved c =
     let rs = c.args.records.now in
     let i = c.loop-record.record-index in
     let r : Record = c.record-item.result in
-    subst (λ (done : List Record). AreLast done c.add_record.new.lasts)
+    subst (λ (done : List Record). AreLast done c.update_last_writes.new.lasts)
     (sym (take_more rs i r c.loop-record-test.true ∙ ap (λ (x : Record). take i rs ++ x ∷ []) (sym c.record-item.is)))
-    (c.in_ok-add_record.ensures (take i rs) c.loop-record.invariant)
+    (c.in_ok-update_last_writes.ensures (take i rs) c.loop-record.invariant)
 
 pub returns : goal.returns
 returns c =

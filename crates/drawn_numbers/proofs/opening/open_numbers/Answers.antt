@@ -18,7 +18,7 @@ returns c =
     let long : length c.insert.new.self.items ≡ length (d ∷ ds) = ap length items in
     let count : length ds + 1 ≡ m.drawers = others.0 in
     let all : AllNewDrawers m 0 (d ∷ ds) = front_drawer m ds d others.1
-    (new_drawer m 0 d c.open_others.new.first some made.0 new.0 new.1 new.2) in
+    (new_drawer m 0 d c.open_other_drawers.new.first some made.0 new.0 new.1 new.2) in
     let asked = c.in_ok-numbers.ensures.0 in (
       asked,
       omega arith,

@@ -15,8 +15,8 @@ deliver_to_part-answer-requires g c =
     subst (λ p. IsTrue (g.P.Receiver.has_case p c.get.result.now)) (sym c.loop.invariant.1)
     (c.requires.cases n c.get.result.now found)
 
-pub returns-then-not-is_passed-clause-walk : goal.returns-then-not-is_passed-clause-walk
-returns-then-not-is_passed-clause-walk g c =
+pub returns-then-not-is_message_passed-clause-walk : goal.returns-then-not-is_message_passed-clause-walk
+returns-then-not-is_message_passed-clause-walk g c =
     let cells = c.args.held.now in
     let held = values_of c.args.held.now in
     let n = c.loop.counter in
@@ -27,7 +27,8 @@ returns-then-not-is_passed-clause-walk g c =
     (257 - c.len-count.result) _ _
     c.deliver_to_part-answer.result c.deliver_to_part-answer.new.part _ c.loop.invariant.1 room
     (next-tried (drop n cells) (drop (n + 1) cells) n c.in-Some.cell u is) c.deliver_to_part-answer.ensures.answer
-    (sym c.is_passed.ensures ∙ c.if-not-is_passed.true) c.loop.invariant.2 in (n, u, is, found.0, found.1)
+    (sym c.is_message_passed.ensures ∙ c.if-not-is_message_passed.true) c.loop.invariant.2 in
+    (n, u, is, found.0, found.1)
 
 pub next-next-requires : goal.next-next-requires
 next-next-requires g c = (c.loop.counter, sym c.loop.invariant.0 ∙ c.in-Some.is)
@@ -41,7 +42,7 @@ loop-preserved g c =
     let here = sym c.loop.invariant.0 ∙ c.in-Some.is in
     let is = c.get.ensures.here n here in
     let room : 257 - c.len-count.result ≡ 257 - length held = ap (λ l. 257 - l) c.len-count.ensures.value in
-    let passed = sym c.is_passed.ensures ∙ c.if-not-is_passed.false in
+    let passed = sym c.is_message_passed.ensures ∙ c.if-not-is_message_passed.false in
     let go = goes-on g.P.Receiver.table g.P.Receiver.takes_memory held c.args.part.now c.loop.part n u
     (257 - c.len-count.result) _ _
     c.deliver_to_part-answer.result c.deliver_to_part-answer.new.part c.loop.refused _ c.loop.invariant.1 room

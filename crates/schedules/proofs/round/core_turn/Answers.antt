@@ -11,18 +11,18 @@ pub returns-in-Ok-true : goal.returns-in-Ok-true
 returns-in-Ok-true g c =
     let core = c.args.core in
     let acts = g.P.Program.acts in
-    let n = c.begin_core.new in
+    let n = c.begin_next_step.new in
     let has : is_some (open_op n.system core) ≡ true = search rules in
-    did_then acts _ _ (steps_on acts core) (attempts acts core) c.in-Ok-true.ensures.did (end_in c.try_core.result)
-    (did_as acts _ _ _ (tries_twice acts core) (attempts acts core)
+    did_then acts _ _ (steps_on acts core) (attempts acts core) c.in-Ok-true.ensures.did
+    (end_in c.attempt_with_retry.result) (did_as acts _ _ _ (tries_twice acts core) (attempts acts core)
     (attempted acts core (open_op n.system core) (standing (at n.system n.programs n.log) false) has)
-    (end_in c.try_core.result) c.try_core.ensures)
+    (end_in c.attempt_with_retry.result) c.attempt_with_retry.ensures)
 
 pub returns-in-Ok-false : goal.returns-in-Ok-false
 returns-in-Ok-false g c =
     let core = c.args.core in
     let acts = g.P.Program.acts in
-    let n = c.begin_core.new in
+    let n = c.begin_next_step.new in
     let has : is_some (open_op n.system core) ≡ false = search rules in
     did_then acts _ _ (steps_on acts core) (attempts acts core) c.in-Ok-false.ensures.did None
     (rw (not_attempted acts core (open_op n.system core) (standing (at n.system n.programs n.log) false) has)

@@ -12,11 +12,12 @@ use Rattle.schedules.proofs.seed.ready_cores.Goals as goal
 pub returns-clause-each : goal.returns-clause-each
 returns-clause-each g c core below =
     let few = c.cores-cores.ensures in
-    let issuing = bit_and c.idle_cores.result c.unfinished.result in
+    let issuing = bit_and c.idle_cores.result c.unfinished_cores.result in
     bit_at_or c.trying_cores.result issuing core
-    ∙ ap₂ max (c.trying_cores.ensures core) (bit_at_and c.idle_cores.result c.unfinished.result core
+    ∙ ap₂ max (c.trying_cores.ensures core) (bit_at_and c.idle_cores.result c.unfinished_cores.result core
     ∙ ap₂ min (c.idle_cores.ensures core)
-    (ap (λ mask. bit_at mask core) c.unfinished.ensures ∙ c.requires core (omega (arith, below, few.cores, few.most))))
+    (ap (λ mask. bit_at mask core) c.unfinished_cores.ensures
+    ∙ c.requires core (omega (arith, below, few.cores, few.most))))
     ∙ ready_at core c.args.system.now.cores core (next_in g.P.Program.acts c.args._programs.now core)
     (omega (arith, below, few.count, few.cores))
 
@@ -24,10 +25,10 @@ pub returns-clause-count : goal.returns-clause-count
 returns-clause-count g c =
     let m = c.args.system.now in
     let few = c.cores-cores.ensures in
-    let issuing = bit_and c.idle_cores.result c.unfinished.result in
+    let issuing = bit_and c.idle_cores.result c.unfinished_cores.result in
     ones_counted (λ core. core_step core (open_op m core) (next_in g.P.Program.acts c.args._programs.now core))
     m.config.cores (bit_or c.trying_cores.result issuing) (returns-clause-each g c)
     (λ core past. bit_at_or c.trying_cores.result issuing core
-    ∙ ap₂ max (c.trying_cores.ensures core) (bit_at_and c.idle_cores.result c.unfinished.result core
-    ∙ ap (λ n. min n (bit_at c.unfinished.result core)) (c.idle_cores.ensures core))
-    ∙ none_at m.cores core (bit_at c.unfinished.result core) (omega (arith, past, few.count, few.cores)))
+    ∙ ap₂ max (c.trying_cores.ensures core) (bit_at_and c.idle_cores.result c.unfinished_cores.result core
+    ∙ ap (λ n. min n (bit_at c.unfinished_cores.result core)) (c.idle_cores.ensures core))
+    ∙ none_at m.cores core (bit_at c.unfinished_cores.result core) (omega (arith, past, few.count, few.cores)))

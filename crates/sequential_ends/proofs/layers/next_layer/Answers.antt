@@ -27,7 +27,7 @@ returns-in-Err-clause-many c = λ points are told.
     let p = found.0 in
     let lists = each_at (HasLists test) points i p are.1 found.1 in
     let before = behind test (take i points) in
-    let more = c.add_point-added.ensures.many p before (found.2, lists) (c.loop-number.invariant.1 points are)
+    let more = c.expand_point-added.ensures.many p before (found.2, lists) (c.loop-number.invariant.1 points are)
     (c.in-Err.is ∙ passed_on _ _ told) in
     let next = ap length (fold_next
     (λ (next : List Point) (q : Point). with_turns test q test.threads next) [] points i p
@@ -35,7 +35,7 @@ returns-in-Err-clause-many c = λ points are told.
     let grows = behind_grows test points (i + 1) in omega (arith, more, next, grows)
 
 pub returns-in-Err-clause-small : goal.returns-in-Err-clause-small
-returns-in-Err-clause-small c = λ told. c.add_point-added.ensures.small (c.in-Err.is ∙ passed_on _ _ told)
+returns-in-Err-clause-small c = λ told. c.expand_point-added.ensures.small (c.in-Err.is ∙ passed_on _ _ told)
 
 abbrev IsLed : Bool → Litmus → List ℕ × List ℕ → Type 0
 IsLed has test row = (p : Point) × IsRowOf test p row.0 × IsOrderOf has test row.1 p

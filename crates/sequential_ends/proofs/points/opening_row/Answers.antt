@@ -8,7 +8,7 @@ returns c =
     let within = c.loop.auto.counter-end in
     let count = c.threads-end.ensures.count in
     let words = c.deref.result.now in
-    opened_packed c.loop.row.items c.put_list.new.row.items words _ c.loop.counter c.args.test.now.threads
-    c.loop.invariant (c.in_ok-put_list.ensures
+    opened_packed c.loop.row.items c.push_list_with_length.new.row.items words _ c.loop.counter c.args.test.now.threads
+    c.loop.invariant (c.in_ok-push_list_with_length.ensures
     ∙ ap (λ (xs : List ℕ). xs ++ length words ∷ words) c.new-row.ensures.items)
     (c.deref.ensures.value ∙ c.in_ok-words.ensures) (omega (arith, over, within, count))

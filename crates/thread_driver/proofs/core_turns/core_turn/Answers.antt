@@ -6,10 +6,10 @@ pub returns-clause-turn : goal.returns-clause-turn
 returns-clause-turn g c = record {
   done = c.do_next_step-done.result;
   between = c.do_next_step-done.new.seat;
-  moved = c.turn-moved.result;
+  moved = c.core_seat_turn-moved.result;
   step_done = c.do_next_step-done.ensures.step;
-  turned = c.turn-moved.ensures.turned;
-  told_is = c.told_of.ensures
-      ∙ ap₂ (λ before after. told_of before after c.do_next_step-done.result c.turn-moved.result)
+  turned = c.core_seat_turn-moved.ensures.turned;
+  told_is = c.told_of_core_turn.ensures
+      ∙ ap₂ (λ before after. told_of before after c.do_next_step-done.result c.core_seat_turn-moved.result)
       c.is_stopped-was_stopped.ensures c.is_stopped.ensures;
 }

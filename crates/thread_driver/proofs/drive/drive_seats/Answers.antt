@@ -59,7 +59,7 @@ returns-in-Ok g c =
     let banks = c.args.banks.items in
     let programs = c.args.programs.items in
     let s = c.drive_shift.new.shift in
-    let e = c.end_of-shift.ensures in
+    let e = c.end_of_shift-shift.ensures in
     let given = c.in-Ok.ensures.worked in
     let comes = comes_of acts m c.args.fair
     (AtMost limit) cores s.cores.items banks s.banks.items programs s.programs.items
@@ -72,7 +72,7 @@ returns-in-Ok g c =
       served = comes.are_served;
       ended = inr (record {
         told = c.in-Ok.told;
-        given = given_by c.end_of-shift.result c.in-Ok.told limit
+        given = given_by c.end_of_shift-shift.result c.in-Ok.told limit
             (λ Many. SeatsGiven acts m c.args.fair Many cores banks programs c.in-Ok.told s.cores.items s.banks.items
             s.programs.items)
             (AreOver acts s.cores.items s.programs.items) e.otherwise e.all_done given c.in-Ok.ensures.used;

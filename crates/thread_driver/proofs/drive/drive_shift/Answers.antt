@@ -21,27 +21,27 @@ pub drive_team-requires-clause-ready : goal.drive_team-requires-clause-ready
 drive_team-requires-clause-ready g c κs bounds i w at =
     let n : ℕ = length c.in_ok-hands.hands.cores.items in
     let s = c.args.shift.now in
-    let ws = c.form.new.team.items in
-    let dealt = dealt_to n s.cores.items s.programs.items s.banks.items c.deal_all.new.hands c.form.new.hands ws
-    c.deal_all.ensures.dealt c.form.ensures.split c.form.ensures.empty in
+    let ws = c.form_team.new.team.items in
+    let dealt = dealt_to n s.cores.items s.programs.items s.banks.items c.deal_shift.new.hands c.form_team.new.hands ws
+    c.deal_shift.ensures.dealt c.form_team.ensures.split c.form_team.ensures.empty in
     let a = g.P.Program.acts in
     let m = c.args.machine.now in
     let signals = c.in_ok-signals.signals in
     let made = c.in_ok-signals.ensures in
     let within = slice_get_within ws i w at in
     let as_many = length-map {B = Signaler} ws (λ (x : Worker g.row.P.Denot). x.signaler) in
-    let same = ap length c.form.ensures.signalers in
+    let same = ap length c.form_team.ensures.signalers in
     let lt : i < length c.in_ok-signals.signalers.items = omega arith in
     let it : slice_index_or c.in_ok-signals.signalers.items i w.signaler ≡ w.signaler =
-    ap (λ xs. slice_index_or xs i w.signaler) (sym c.form.ensures.signalers)
+    ap (λ xs. slice_index_or xs i w.signaler) (sym c.form_team.ensures.signalers)
     ∙ value_of (λ (x : Worker g.row.P.Denot). x.signaler) ws i w w.signaler at in
     let one : IsNewSignaler signals i w.signaler = subst (IsNewSignaler signals i) it (made.2 i w.signaler lt) in
-    let total = total_to n s.cores.items s.programs.items s.banks.items c.deal_all.new.hands c.form.new.hands ws
-    c.form.ensures.split c.form.ensures.empty in
+    let total = total_to n s.cores.items s.programs.items s.banks.items c.deal_shift.new.hands c.form_team.new.hands ws
+    c.form_team.ensures.split c.form_team.ensures.empty in
     let share = share_few (λ (v : Worker g.row.P.Denot). v.cores.items) ws i w at in
     let bank_share = share_few (λ (v : Worker g.row.P.Denot). v.banks.items) ws i w at in
     let few = c.requires.few in
-    let dealt_total = c.deal_all.ensures.total in (
+    let dealt_total = c.deal_shift.ensures.total in (
       record {
         signaler = one.0;
         cores = cores_of a m n s.cores.items s.programs.items s.banks.items ws dealt c.requires.cores
@@ -56,31 +56,32 @@ drive_team-requires-clause-ready g c κs bounds i w at =
       omega arith,
     )
 
-pub disband-requires-clause-room : goal.disband-requires-clause-room
-disband-requires-clause-room g c =
-    let ws = c.form.new.team.items in
+pub disband_team-requires-clause-room : goal.disband_team-requires-clause-room
+disband_team-requires-clause-room g c =
+    let ws = c.form_team.new.team.items in
     let as_many = length-map {B = Signaler} ws (λ (x : Worker g.row.P.Denot). x.signaler) in
-    let same = ap length c.form.ensures.signalers in
+    let same = ap length c.form_team.ensures.signalers in
     let long = c.drive_team.ensures.work.long in
     let made = c.in_ok-signals.ensures.1 in
-    let kept = c.form.ensures.none_left.1 in
+    let kept = c.form_team.ensures.none_left.1 in
     let held = c.in_ok-signals.signalers.ok.1 in
     let count : c.args.workers ≡ length c.drive_team.new.team.items = omega arith in (
-      subst (λ k. HaveHandRoom k c.form.new.hands) count
-          (c.form.ensures.room c.args.workers (c.deal_all.ensures.room c.args.workers c.in_ok-hands.ensures.room)),
+      subst (λ k. HaveHandRoom k c.form_team.new.hands) count
+          (c.form_team.ensures.room c.args.workers (c.deal_shift.ensures.room c.args.workers
+          c.in_ok-hands.ensures.room)),
       omega arith,
     )
 
 pub close-requires : goal.close-requires
 close-requires g c =
-    let ws = c.form.new.team.items in
+    let ws = c.form_team.new.team.items in
     let vs = c.drive_team.new.team.items in
     let signals = c.in_ok-signals.signals in
     let made = c.in_ok-signals.ensures in
     let rota : Rota = record { programs = c.len-cores.result; turns = c.args.turn_limit; fair = c.args.fair } in
     let as_many = length-map {B = Signaler} ws (λ (x : Worker g.row.P.Denot). x.signaler) in
-    let same = ap length c.form.ensures.signalers in
-    subst (AreAllSignalers signals) (sym c.disband.ensures.signalers)
+    let same = ap length c.form_team.ensures.signalers in
+    subst (AreAllSignalers signals) (sym c.disband_team.ensures.signalers)
     (all_back g.P.Program.acts c.args.machine.now signals rota ws vs c.drive_team.ensures.work
     (let long = made.1 in let many = made.0 in omega arith)
     (λ i w at.
@@ -88,26 +89,26 @@ close-requires g c =
     let long = made.1 in
     let lt : i < length c.in_ok-signals.signalers.items = omega arith in
     let it : slice_index_or c.in_ok-signals.signalers.items i w.signaler ≡ w.signaler =
-    ap (λ xs. slice_index_or xs i w.signaler) (sym c.form.ensures.signalers)
+    ap (λ xs. slice_index_or xs i w.signaler) (sym c.form_team.ensures.signalers)
     ∙ value_of (λ (x : Worker g.row.P.Denot). x.signaler) ws i w w.signaler at in
     (subst (IsNewSignaler signals i) it (made.2 i w.signaler lt)).1))
 
-pub gather_all-requires-clause-lengths : goal.gather_all-requires-clause-lengths
-gather_all-requires-clause-lengths g c =
+pub gather_shift-requires-clause-lengths : goal.gather_shift-requires-clause-lengths
+gather_shift-requires-clause-lengths g c =
     let n : ℕ = length c.in_ok-hands.hands.cores.items in
     let s = c.args.shift.now in
-    let ws = c.form.new.team.items in
-    let dealt = dealt_to n s.cores.items s.programs.items s.banks.items c.deal_all.new.hands c.form.new.hands ws
-    c.deal_all.ensures.dealt c.form.ensures.split c.form.ensures.empty in
+    let ws = c.form_team.new.team.items in
+    let dealt = dealt_to n s.cores.items s.programs.items s.banks.items c.deal_shift.new.hands c.form_team.new.hands ws
+    c.deal_shift.ensures.dealt c.form_team.ensures.split c.form_team.ensures.empty in
     let vs = c.drive_team.new.team.items in
-    let h = c.disband.new.hands in
+    let h = c.disband_team.new.hands in
     let a = g.P.Program.acts in
     let m = c.args.machine.now in
     let most = AtMost c.args.turn_limit in
     let rota : Rota = record { programs = c.len-cores.result; turns = c.args.turn_limit; fair = c.args.fair } in
     let gave = all_gave a m c.in_ok-signals.signals rota ws vs c.drive_team.ensures.work in
     let long = vs_count a m n s.cores.items s.programs.items s.banks.items ws vs dealt most gave in
-    lengths_back n vs h long c.disband.ensures.back (length s.cores.items) (length s.programs.items)
+    lengths_back n vs h long c.disband_team.ensures.back (length s.cores.items) (length s.programs.items)
     (length s.banks.items) c.len-cores.result c.len-programs.result c.len-banks.result
     (c.len-cores.ensures ∙ s.cores.ok.0) (c.len-programs.ensures ∙ s.programs.ok.0)
     (c.len-banks.ensures ∙ s.banks.ok.0)
@@ -117,21 +118,21 @@ pub returns-clause-worked : goal.returns-clause-worked
 returns-clause-worked g c =
     let n : ℕ = length c.in_ok-hands.hands.cores.items in
     let s = c.args.shift.now in
-    let ws = c.form.new.team.items in
-    let dealt = dealt_to n s.cores.items s.programs.items s.banks.items c.deal_all.new.hands c.form.new.hands ws
-    c.deal_all.ensures.dealt c.form.ensures.split c.form.ensures.empty in
+    let ws = c.form_team.new.team.items in
+    let dealt = dealt_to n s.cores.items s.programs.items s.banks.items c.deal_shift.new.hands c.form_team.new.hands ws
+    c.deal_shift.ensures.dealt c.form_team.ensures.split c.form_team.ensures.empty in
     let vs = c.drive_team.new.team.items in
-    let h = c.disband.new.hands in
-    let t = c.gather_all.new.shift in
+    let h = c.disband_team.new.hands in
+    let t = c.gather_shift.new.shift in
     let a = g.P.Program.acts in
     let m = c.args.machine.now in
     let most = AtMost c.args.turn_limit in
     let rota : Rota = record { programs = c.len-cores.result; turns = c.args.turn_limit; fair = c.args.fair } in
     let gave = all_gave a m c.in_ok-signals.signals rota ws vs c.drive_team.ensures.work in
     let long = vs_count a m n s.cores.items s.programs.items s.banks.items ws vs dealt most gave in
-    let counts = c.gather_all.ensures.long in
-    let back = dealt_back n vs h long c.disband.ensures.back t.cores.items t.programs.items t.banks.items
-    c.gather_all.ensures.dealt in
+    let counts = c.gather_shift.ensures.long in
+    let back = dealt_back n vs h long c.disband_team.ensures.back t.cores.items t.programs.items t.banks.items
+    c.gather_shift.ensures.dealt in
     let told = c.told_by_team-told.ensures in
     let team = c.as_slice.ensures.value in
     all_worked a m c.args.fair most n s t ws vs
@@ -146,12 +147,12 @@ pub returns-clause-used : goal.returns-clause-used
 returns-clause-used g c goes =
     let n : ℕ = length c.in_ok-hands.hands.cores.items in
     let s = c.args.shift.now in
-    let ws = c.form.new.team.items in
-    let dealt = dealt_to n s.cores.items s.programs.items s.banks.items c.deal_all.new.hands c.form.new.hands ws
-    c.deal_all.ensures.dealt c.form.ensures.split c.form.ensures.empty in
+    let ws = c.form_team.new.team.items in
+    let dealt = dealt_to n s.cores.items s.programs.items s.banks.items c.deal_shift.new.hands c.form_team.new.hands ws
+    c.deal_shift.ensures.dealt c.form_team.ensures.split c.form_team.ensures.empty in
     let vs = c.drive_team.new.team.items in
-    let h = c.disband.new.hands in
-    let t = c.gather_all.new.shift in
+    let h = c.disband_team.new.hands in
+    let t = c.gather_shift.new.shift in
     let a = g.P.Program.acts in
     let m = c.args.machine.now in
     let signals = c.in_ok-signals.signals in
@@ -160,9 +161,9 @@ returns-clause-used g c goes =
     let gave = all_gave a m signals rota ws vs work in
     let most = AtMost c.args.turn_limit in
     let long = vs_count a m n s.cores.items s.programs.items s.banks.items ws vs dealt most gave in
-    let counts = c.gather_all.ensures.long in
-    let back = dealt_back n vs h long c.disband.ensures.back t.cores.items t.programs.items t.banks.items
-    c.gather_all.ensures.dealt in
+    let counts = c.gather_shift.ensures.long in
+    let back = dealt_back n vs h long c.disband_team.ensures.back t.cores.items t.programs.items t.banks.items
+    c.gather_shift.ensures.dealt in
     let told = c.told_by_team-told.ensures in
     let team = c.as_slice.ensures.value in
     let lacks = told.no_memory ∙ ap (λ (us : List (Worker g.row.P.Denot)). list_any (λ u. u.told.no_memory) us) team in
@@ -171,10 +172,10 @@ returns-clause-used g c goes =
     let moves = told.has_progressed
     ∙ ap (λ (us : List (Worker g.row.P.Denot)). list_any (λ u. u.told.has_progressed) us) team in
     let none = or_parts c.told_by_team-told.result.no_memory c.told_by_team-told.result.is_exhausted goes in
-    let heard = subst AllHeard c.disband.ensures.signalers c.close.ensures in
+    let heard = subst AllHeard c.disband_team.ensures.signalers c.close.ensures in
     let total = same_total a m signals rota ws vs work
-    ∙ (total_to n s.cores.items s.programs.items s.banks.items c.deal_all.new.hands c.form.new.hands ws
-    c.form.ensures.split c.form.ensures.empty).0 ∙ c.deal_all.ensures.total.0 in
+    ∙ (total_to n s.cores.items s.programs.items s.banks.items c.deal_shift.new.hands c.form_team.new.hands ws
+    c.form_team.ensures.split c.form_team.ensures.empty).0 ∙ c.deal_shift.ensures.total.0 in
     let count = c.len-cores.ensures ∙ s.cores.ok.0 in
     ⊎_elim
     (λ all.

@@ -11,8 +11,8 @@ use Rattle.thread_driver.proofs.pass.core_pass.Goals as goal
 pub loop-i-init : goal.loop-i-init
 loop-i-init g c = (ends, refl, refl, refl)
 
-pub core_row-has-requires-clause-seat : goal.core_row-has-requires-clause-seat
-core_row-has-requires-clause-seat g c =
+pub core_turns_in_row-has-requires-clause-seat : goal.core_turns_in_row-has-requires-clause-seat
+core_turns_in_row-has-requires-clause-seat g c =
     next_core g.P.Program.acts c.args.machine.now c.args.cores.now.items c.loop-i.cores.items c.args.programs.now.items
     c.loop-i.programs.items c.args.limit c.loop-i.i c.args.had.now c.loop-i.had c.loop-i.all c.requires.seats
     c.requires.ahead c.loop-i.invariant.0
@@ -20,8 +20,8 @@ core_row-has-requires-clause-seat g c =
     c.index_mut.result.now c.index_mut-in-loop-i.result.now c.index_mut.ensures.value
     c.index_mut-in-loop-i.ensures.value
 
-pub core_row-has-requires-clause-ahead : goal.core_row-has-requires-clause-ahead
-core_row-has-requires-clause-ahead g c =
+pub core_turns_in_row-has-requires-clause-ahead : goal.core_turns_in_row-has-requires-clause-ahead
+core_turns_in_row-has-requires-clause-ahead g c =
     next_ahead g.P.Program.acts c.args.machine.now c.args.cores.now.items c.loop-i.cores.items
     c.args.programs.now.items c.loop-i.programs.items c.args.limit c.loop-i.i c.args.had.now c.loop-i.had
     c.loop-i.all c.requires.seats c.requires.ahead c.loop-i.invariant.0 (omega arith)
@@ -34,9 +34,9 @@ loop-i-preserved g c =
     let i = c.loop-i.i in
     let cores = c.loop-i.cores.items in
     let programs = c.loop-i.programs.items in
-    let q = c.core_row-has.new.seat in
-    let b = c.core_row-has.new.program in
-    let has = c.core_row-has.result.1 in
+    let q = c.core_turns_in_row-has.new.seat in
+    let b = c.core_turns_in_row-has.new.program in
+    let has = c.core_turns_in_row-has.result.1 in
     let lengths = c.loop-i.invariant in
     let counts = c.requires.counts in
     let before = read_there c.loop-i.had i 0 (let long = lengths.1 in let counted = lengths.3 in omega arith) in
@@ -45,11 +45,11 @@ loop-i-preserved g c =
     c.requires.ahead lengths.0
     (omega arith) (let one_each = c.requires.ahead.long in let long = lengths.2 in omega arith)
     c.index_mut.result.now c.index_mut-in-loop-i.result.now c.index_mut.ensures.value
-    c.index_mut-in-loop-i.ensures.value (sym c.if-ends_all.ensures) (slice_index_or c.loop-i.had i 0) has before
-    c.core_row-has.result.0 q b c.core_row-has.ensures in (
+    c.index_mut-in-loop-i.ensures.value (sym c.if-ends_all_turns.ensures) (slice_index_or c.loop-i.had i 0) has before
+    c.core_turns_in_row-has.result.0 q b c.core_turns_in_row-has.ensures in (
       subst (λ t. PassGiven (IsCoreTurn g.P.Program.acts c.args.machine.now) c.args.limit (i + 1) c.args.had.now
           (zip c.args.cores.now.items c.args.programs.now.items) t (slice_set c.loop-i.had i has)
-          (zip (slice_set cores i q) (slice_set programs i b))) (sym c.both-all.ensures) passed,
+          (zip (slice_set cores i q) (slice_set programs i b))) (sym c.told_by_both-all.ensures) passed,
       length-set cores i q ∙ lengths.1,
       length-set programs i b ∙ lengths.2,
       length-set c.loop-i.had i has ∙ lengths.3,
@@ -59,10 +59,10 @@ pub returns-after-loop-i-clause-turns : goal.returns-after-loop-i-clause-turns
 returns-after-loop-i-clause-turns g c =
     (c.loop-i.i, λ goes. (let long = c.loop-i.invariant.1 in omega arith), c.loop-i.invariant.0)
 
-pub returns-then-ends_all-clause-turns : goal.returns-then-ends_all-clause-turns
-returns-then-ends_all-clause-turns g c = (
+pub returns-then-ends_all_turns-clause-turns : goal.returns-then-ends_all_turns-clause-turns
+returns-then-ends_all_turns-clause-turns g c = (
   c.loop-i.i,
-  λ goes. absurd (true≢false (c.if-ends_all.ensures ∙ goes)),
+  λ goes. absurd (true≢false (c.if-ends_all_turns.ensures ∙ goes)),
   c.loop-i.invariant.0,
 )
 
@@ -78,14 +78,14 @@ returns-after-loop-i-clause-ahead g c =
     ahead_passed g.P.Program.acts c.args.machine.now c.args.cores.now.items c.loop-i.cores.items
     c.args.programs.now.items c.loop-i.programs.items c.requires.seats c.requires.ahead i.0 i.1 i.2
 
-pub returns-then-ends_all-clause-seats : goal.returns-then-ends_all-clause-seats
-returns-then-ends_all-clause-seats g c =
+pub returns-then-ends_all_turns-clause-seats : goal.returns-then-ends_all_turns-clause-seats
+returns-then-ends_all_turns-clause-seats g c =
     let i = c.loop-i.invariant in
     cores_passed g.P.Program.acts c.args.machine.now c.args.cores.now.items c.loop-i.cores.items
     c.args.programs.now.items c.loop-i.programs.items c.requires.seats c.requires.ahead i.0 i.1 i.2
 
-pub returns-then-ends_all-clause-ahead : goal.returns-then-ends_all-clause-ahead
-returns-then-ends_all-clause-ahead g c =
+pub returns-then-ends_all_turns-clause-ahead : goal.returns-then-ends_all_turns-clause-ahead
+returns-then-ends_all_turns-clause-ahead g c =
     let i = c.loop-i.invariant in
     ahead_passed g.P.Program.acts c.args.machine.now c.args.cores.now.items c.loop-i.cores.items
     c.args.programs.now.items c.loop-i.programs.items c.requires.seats c.requires.ahead i.0 i.1 i.2

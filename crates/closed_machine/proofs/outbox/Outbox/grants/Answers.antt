@@ -19,9 +19,10 @@ loop-preserved c =
     let cells = c.self.inside.queue in
     let i = c.loop.invariant in
     let here : IsAfter c.loop.counter c.in-Some.cell cells = sym i.2 ∙ c.in-Some.is in (
-      (let few = i.0 in let one = c.grants_of-count.ensures.one in omega arith),
-      weigh_more (ownership_in c.args.line) (values_of cells) c.loop.counter c.loop.count c.grants_of-count.result i.1
-          (c.grants_of-count.ensures.value
+      (let few = i.0 in let one = c.grants_in_message-count.ensures.one in omega arith),
+      weigh_more (ownership_in c.args.line) (values_of cells) c.loop.counter c.loop.count
+          c.grants_in_message-count.result i.1
+          (c.grants_in_message-count.ensures.value
           ∙ ap (λ o. weigh (ownership_in c.args.line) (option_to_list o))
           (sym (c.get.ensures.value c.loop.counter here))),
       c.next-next.ensures c.loop.counter here,

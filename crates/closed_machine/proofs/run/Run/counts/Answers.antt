@@ -7,11 +7,11 @@ pub loop-number-preserved : goal.loop-number-preserved
 loop-number-preserved c =
     let i = c.loop-number.invariant in
     let n = c.loop-number.number in (
-      within_more c.loop-number.counts c.counts.result c.plus-counts.result (n * 18446744073709551615)
-          18446744073709551615 ((n + 1) * 18446744073709551615) i.0 c.counts.ensures.within c.plus-counts.ensures
+      within_more c.loop-number.counts c.counts.result c.add_counts-counts.result (n * 18446744073709551615)
+          18446744073709551615 ((n + 1) * 18446744073709551615) i.0 c.counts.ensures.within c.add_counts-counts.ensures
           (omega arith),
       (λ each of.
-          c.plus-counts.ensures
+          c.add_counts-counts.ensures
           ∙ counts_more n each c.loop-number.counts c.counts.result (i.1 each of)
           (c.counts.ensures.value
           ∙ left_counts c.args.self.now n c.mail.result.0.now c.mail.result.1.now c.mail.ensures each of)),

@@ -11,11 +11,11 @@ loop-slot-preserved c =
     let i = c.loop-slot.invariant in
     let z = c.args.self.now.set_up in
     let near : c.loop-slot.slot < slot_count z = c.loop-slot-test.true in (
-      (let few = i.0 in let one = c.grants_of-count.ensures.one in omega arith),
+      (let few = i.0 in let one = c.grants_in_message-count.ensures.one in omega arith),
       (λ parts.
           over_more c.loop-slot.slot (λ k. weigh (ownership_in c.args.line) (content (parts.phases k)))
-          c.loop-slot.count c.grants_of-count.result (i.1 parts)
-          (c.grants_of-count.ensures.value
+          c.loop-slot.count c.grants_in_message-count.result (i.1 parts)
+          (c.grants_in_message-count.ensures.value
           ∙ ap (λ o. weigh (ownership_in c.args.line) (option_to_list o)) c.as_ref.ensures.value
           ∙ ap (weigh (ownership_in c.args.line))
           (found_content c.args.self.now parts c.loop-slot.slot c.index.result.now near c.index.ensures))),

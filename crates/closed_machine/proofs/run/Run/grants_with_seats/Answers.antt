@@ -9,11 +9,11 @@ use Rattle.closed_machine.proofs.run.Run.grants_with_seats.Goals as goal
 pub loop-number-preserved : goal.loop-number-preserved
 loop-number-preserved c =
     let i = c.loop-number.invariant in (
-      (let few = i.0 in let more = c.grants_with-count.ensures.within in omega arith),
+      (let few = i.0 in let more = c.grants_in_mail-count.ensures.within in omega arith),
       (λ parts.
           over_more c.loop-number.number (λ j. weigh (ownership_in c.args.line) (bag_of_hold (parts.seats j)))
-          c.loop-number.count c.grants_with-count.result (i.1 parts)
-          (c.grants_with-count.ensures.value
+          c.loop-number.count c.grants_in_mail-count.result (i.1 parts)
+          (c.grants_in_mail-count.ensures.value
           ∙ ap (weigh (ownership_in c.args.line))
           (left_messages c.args.self.now c.loop-number.number c.mail.result.0.now c.mail.result.1.now c.mail.ensures
           parts))),

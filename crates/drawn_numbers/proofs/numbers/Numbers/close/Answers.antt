@@ -32,16 +32,16 @@ returns c =
     let rest : List Drawer = c.pop-last.new.self.items in
     let last : Drawer = c.unwrap.result in
     let split = split_of all rest _ last c.pop-last.ensures.items c.unwrap.ensures in
-    let view : c.join_all.new.seat.me.0 ≡ knows_all last.seat.me.0 rest =
-    ap (λ y. y.0) c.join_all.ensures.met ∙ ap (λ (y : CounterSeat). knows_all y.me.0 rest)
-    c.leave-seat.ensures.counter_seat in
+    let view : c.join_drawers.new.seat.me.0 ≡ knows_all last.seat.me.0 rest =
+    ap (λ y. y.0) c.join_drawers.ensures.met ∙ ap (λ (y : CounterSeat). knows_all y.me.0 rest)
+    c.close_drawer-seat.ensures.counter_seat in
     let words : List ℕ = slots_items c.close_with-closed.result.words in
     let slots : List (Unit {0}) = slots_items c.close_with-closed.result.slots in
-    let id : ℕ = c.join_all.new.seat.id in
+    let id : ℕ = c.join_drawers.new.seat.id in
     let end : Final (Seen (Drawn n) id (knows_all last.seat.me.0 rest)) words slots =
     subst (λ (y : ℕ × View (List ℕ)). Final (Seen (Drawn y.0) id y.1) words slots) (λ i. (m.keyed i, view i))
     c.close_with-closed.ensures.values.2 in
-    let lists = c.join_all.ensures.lists ∙ ap (lists_filled rest) c.leave-seat.ensures.list
+    let lists = c.join_drawers.ensures.lists ∙ ap (lists_filled rest) c.close_drawer-seat.ensures.list
     ∙ sym (filled_snoc rest last m.lists.items) ∙ ap (λ y. lists_filled y m.lists.items) (sym split) in
     subst (λ y. AllDrawn n all (map (λ xs. xs.items) y)) (sym lists)
     (all_drawn n id all rest last m.lists.items words slots split m.room

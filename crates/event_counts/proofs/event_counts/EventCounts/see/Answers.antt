@@ -19,5 +19,5 @@ returns g c =
       held = inside.held;
       dropped = inside.dropped;
       next = inside.next;
-    })) c.more-self-inside.ensures
+    })) c.increment_count-self-inside.ensures
     ∙ ap (λ n. told (record n { events = more n.events })) c.self.view_is)

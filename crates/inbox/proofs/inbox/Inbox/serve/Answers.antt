@@ -34,7 +34,7 @@ returns g c =
     c.deliver_to_part-answer.new.part _ _ hand
     (c.places-places.ensures.value ∙ ap (λ (b : InboxState T). 256 - length b.held) c.self.view_is)
     c.deliver_to_part-answer.ensures.answer (sym c.finds_no_place.ensures ∙ c.if-finds_no_place.false)
-    c.settle_hand.ensures.result
+    c.apply_hand_answer.ensures.result
     (subst (λ (h : Option T). IfSome h
-    (λ m. c.settle_hand.new.self ≡ after_hand c.deliver_to_part-answer.result m c.args.self.now.held)) hand
-    c.settle_hand.ensures.after)
+    (λ m. c.apply_hand_answer.new.self ≡ after_hand c.deliver_to_part-answer.result m c.args.self.now.held)) hand
+    c.apply_hand_answer.ensures.after)

@@ -11,4 +11,4 @@ pub returns-clause-line : goal.returns-clause-line
 returns-clause-line c =
     let seat = c.args.self.now in
     rw (first-room seat.part.bank seat.mail.inbox.held, ← c.first_held.ensures, c.in_ok-message.was)
-    c.room_for.ensures.line
+    c.victim_for_request.ensures.line

@@ -7,4 +7,4 @@ pub returns-clause-memory : goal.returns-clause-memory
 returns-clause-memory c =
     let m = c.args.machine.now in
     turns_never (CoreServes m) (CoreTakes m) NoMemory (λ result p q s. s.4) core_hand (CorePuts m)
-    c.args.self.now c.turn_of.result c.turn_of.new.seat c.turn_of.ensures.turns
+    c.args.self.now c.seat_turn.result c.seat_turn.new.seat c.seat_turn.ensures.turns

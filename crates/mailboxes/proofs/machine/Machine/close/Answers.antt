@@ -5,8 +5,8 @@ use Rattle.closed_machine.specs.PartsOfState.{PartsOfState}
 use Rattle.mailboxes.proofs.ClosedParts.{left_parts}
 use Rattle.mailboxes.proofs.machine.Machine.close.Goals as goal
 
-pub merged-requires : goal.merged-requires
-merged-requires c =
+pub merge_core_records-requires : goal.merge_core_records-requires
+merge_core_records-requires c =
     let m = c.args.self in
     let left = c.in_ok-left.left in
     let e = c.in_ok-left.ensures in

@@ -18,8 +18,8 @@ serve_part-served-requires-clause-quiet c = bank_leaves_part c.waiting_banks_sta
 pub serve_part-served-requires-clause-never : goal.serve_part-served-requires-clause-never
 serve_part-served-requires-clause-never c = bank_never
 
-pub change_bank_if-requires-clause-change : goal.change_bank_if-requires-clause-change
-change_bank_if-requires-clause-change c =
+pub change_bank_hold_if-requires-clause-change : goal.change_bank_hold_if-requires-clause-change
+change_bank_hold_if-requires-clause-change c =
     serve_moves c.args.machine.now c.args.self.now c.args.part.now c.requires.seat c.requires.part
     c.messages_of_seats_find_their_parts.ensures c.parts_of_seats_have_their_shape.ensures.bank
     c.waiting_banks_stay.ensures c.serve_part-served.result c.serve_part-served.new.came_in
@@ -29,30 +29,30 @@ pub invariant_of-self-clause-tied : goal.invariant_of-self-clause-tied
 invariant_of-self-clause-tied c =
     let b = c.args.self.now in
     let now = c.serve_part-served.new.came_in in
-    box_stands b.seat c.change_bank_if.new.seat (stored_bank (hold b) c.serve_part-served.new.part now) b.number
-    b.inbox.hand b.inbox.held now c.change_bank_if.ensures.changed b.tied refl refl refl
+    box_stands b.seat c.change_bank_hold_if.new.seat (stored_bank (hold b) c.serve_part-served.new.part now) b.number
+    b.inbox.hand b.inbox.held now c.change_bank_hold_if.ensures.changed b.tied refl refl refl
 
 pub invariant_of-self-clause-own : goal.invariant_of-self-clause-own
 invariant_of-self-clause-own c =
     (serve_settled c.args.machine.now c.args.self.now c.args.part.now c.requires.seat c.requires.part
     c.messages_of_seats_find_their_parts.ensures c.parts_of_seats_have_their_shape.ensures.bank
     c.waiting_banks_stay.ensures c.serve_part-served.result c.serve_part-served.new.came_in
-    c.serve_part-served.new.part c.serve_part-served.ensures.effect c.change_bank_if.ensures.standing).0
+    c.serve_part-served.new.part c.serve_part-served.ensures.effect c.change_bank_hold_if.ensures.standing).0
 
 pub returns-clause-part : goal.returns-clause-part
 returns-clause-part c =
     record {
-      tied = bank_stands c.args.self.now.seat c.change_bank_if.new.seat c.serve_part-served.new.part
-          c.serve_part-served.new.came_in c.change_bank_if.ensures.changed;
+      tied = bank_stands c.args.self.now.seat c.change_bank_hold_if.new.seat c.serve_part-served.new.part
+          c.serve_part-served.new.came_in c.change_bank_hold_if.ensures.changed;
       linked = (serve_settled c.args.machine.now c.args.self.now c.args.part.now c.requires.seat c.requires.part
           c.messages_of_seats_find_their_parts.ensures c.parts_of_seats_have_their_shape.ensures.bank
           c.waiting_banks_stay.ensures c.serve_part-served.result c.serve_part-served.new.came_in
-          c.serve_part-served.new.part c.serve_part-served.ensures.effect c.change_bank_if.ensures.standing).1;
+          c.serve_part-served.new.part c.serve_part-served.ensures.effect c.change_bank_hold_if.ensures.standing).1;
     }
 
-pub change_bank_if-requires-clause-same : goal.change_bank_if-requires-clause-same
-change_bank_if-requires-clause-same c not =
+pub change_bank_hold_if-requires-clause-same : goal.change_bank_hold_if-requires-clause-same
+change_bank_hold_if-requires-clause-same c not =
     bank_stays c.args.self.now c.args.part.now c.serve_part-served.new.part c.serve_part-served.new.came_in
     c.requires.part (c.serve_part-served.ensures.same
     (ap (λ full. may_change full c.serve_part-served.result) (sym c.hand_is_full-was_full.ensures)
-    ∙ sym c.may_change-changes.ensures ∙ not))
+    ∙ sym c.serving_may_change-changes.ensures ∙ not))

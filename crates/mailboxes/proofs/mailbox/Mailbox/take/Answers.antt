@@ -28,6 +28,6 @@ invariant_of-self-2-clause-own c =
     let p = c.args.self.now in
     let z = c.args.machine.now.set_up in
     own_after z p.cores p.number p.cursor (incoming_count z.config.cores z.config.banks p.number)
-    (c.in-Some.slot, c.in-Some.after) p.seat.me c.find_full-found.new.seat.me
+    (c.in-Some.slot, c.in-Some.after) p.seat.me c.find_full_slot-found.new.seat.me
     c.fill_hand.ensures.taken.0 p.inbox c.fill_hand.new.came_in c.requires.seat.2 c.in-Some.ensures.found
     c.fill_hand.ensures.taken.1 p.own c.fill_hand.ensures.taken.3

@@ -32,10 +32,10 @@ returns-clause-did g c =
     c.as_slice.ensures.value ∙ search rules in
     let numbers : c.as_slice.result.now ≡ numbers_in_flight n.system = rw here at seen in
     rw (← c.self.view_is) (did_then acts _ _ (core_turns acts s.cores) (deliveries acts s.is_fair)
-    c.in_ok-core_turns.ensures (end_in c.deliveries.result) (did_then acts _ _ (one Lists)
+    c.in_ok-core_turns.ensures (end_in c.deliver_messages.result) (did_then acts _ _ (one Lists)
     (λ t. for_each acts (delivery acts s.is_fair) (numbers_in_flight t.machine) t)
     (list_made acts _ (at n.system n.programs n.log))
-    (end_in c.deliveries.result)
+    (end_in c.deliver_messages.result)
     (did_as acts _ _ _ (for_each acts (delivery acts s.is_fair) (numbers_in_flight n.system))
     (λ t. for_each acts (delivery acts s.is_fair) (numbers_in_flight t.machine) t) refl
-    (end_in c.deliveries.result) (rw (numbers, here) at (c.deliveries.ensures n.programs)))))
+    (end_in c.deliver_messages.result) (rw (numbers, here) at (c.deliver_messages.ensures n.programs)))))

@@ -16,8 +16,8 @@ use Rattle.stop_flags.proofs.signals.Signals.close.Goals as goal
 pub unwrap-requires : goal.unwrap-requires
 unwrap-requires c = search rules
 
-pub join_all-requires-clause-signalers : goal.join_all-requires-clause-signalers
-join_all-requires-clause-signalers c i s e =
+pub join_signalers-requires-clause-signalers : goal.join_signalers-requires-clause-signalers
+join_signalers-requires-clause-signalers c i s e =
     let rest : List Signaler = c.pop-last.new.self.items in
     let last : Signaler = c.unwrap.result in
     let split = split_of c.args.signalers.items rest _ last c.pop-last.ensures.items c.unwrap.ensures in
@@ -34,11 +34,12 @@ returns c =
     let rest : List Signaler = c.pop-last.new.self.items in
     let last : Signaler = c.unwrap.result in
     let split = split_of all rest _ last c.pop-last.ensures.items c.unwrap.ensures in
-    let view : c.join_all.new.seat.me.0 ≡ knows_all last.seat.me.0 rest =
-    ap (λ y. y.0) c.join_all.ensures.met ∙ ap (λ (y : FlagSeat). knows_all y.me.0 rest) c.leave-seat.ensures in
+    let view : c.join_signalers.new.seat.me.0 ≡ knows_all last.seat.me.0 rest =
+    ap (λ y. y.0) c.join_signalers.ensures.met ∙ ap (λ (y : FlagSeat). knows_all y.me.0 rest)
+    c.seat_of_signaler-seat.ensures in
     let words : List ℕ = slots_items c.close_with-closed.result.words in
     let slots : List (Unit {0}) = slots_items c.close_with-closed.result.slots in
-    let id : ℕ = c.join_all.new.seat.id in
+    let id : ℕ = c.join_signalers.new.seat.id in
     let end : Final (Seen (FlagsHold n) id (knows_all last.seat.me.0 rest)) words slots =
     subst (λ (y : ℕ × View Voice). Final (Seen (FlagsHold y.0) id y.1) words slots) (λ i. (m.keyed i, view i))
     c.close_with-closed.ensures.values.2 in

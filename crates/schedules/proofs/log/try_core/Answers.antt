@@ -1,5 +1,0 @@
-use Rattle.std.proofs.Common.{rules}
-use Rattle.schedules.proofs.log.try_core.Goals as goal
-
-pub see-requires : goal.see-requires
-see-requires g c = (c.args.system.now, search rules)

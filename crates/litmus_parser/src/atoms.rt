@@ -10,7 +10,7 @@ ghost use Rattle.litmus_parser.specs.Condition.{start};
 ghost use Rattle.litmus_parser.specs.Names.{address_of};
 ghost use Rattle.litmus_parser.specs.Verdicts.{value_register};
 
-use crate::items::{Opening, is_address, item_opening};
+use crate::items::{Opening, is_address_register, item_opening};
 use crate::syntax::Item;
 use litmus_lexer::{
     Cursor, Kind, Locations, MOST_ATOMS, OPENING_PARENTHESIS, ReadError, Token, register,
@@ -19,7 +19,7 @@ use piece_forms::ahead;
 
 /// What a factor begins with, or nothing for a parenthesis; how many atoms there are with it; and
 /// the position after it.
-pub fn factor_start<'a>(
+pub fn read_factor_start<'a>(
     threads: u8,
     depth: u8,
     locations: &mut Locations,
@@ -52,7 +52,7 @@ pub fn factor_start<'a>(
 
 /// A register of the thread that holds values.
 #[tactic(auto, unfolding(crate::specs::Verdicts::value_in))]
-pub fn value_register<'a>(
+pub fn read_value_register<'a>(
     items: &[Item],
     thread: u8,
     cursor: Cursor<'a>,
@@ -65,7 +65,7 @@ pub fn value_register<'a>(
         (Some(Token::Word(word)), after) => match register(word) {
             None | Some(0) => Err(after.fault(Kind::BadCondition)),
             Some(register) => {
-                if is_address(items, thread, register) {
+                if is_address_register(items, thread, register) {
                     return Err(after.fault(Kind::AddressAsValue));
                 }
                 Ok((register, after))

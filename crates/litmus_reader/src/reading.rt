@@ -17,7 +17,9 @@ ghost use Rattle.piece_forms.specs.Reading.{reads};
 
 use crate::contents::Test;
 use litmus_lexer::{Cursor, Kind, LitmusError, Locations, MOST_BYTES, MOST_THREADS, ReadError};
-use litmus_parser::{Expr, Name, block, condition, preamble, reach, same_name, whole_table};
+use litmus_parser::{
+    Expr, Name, read_block, read_condition, read_preamble, read_table, readable_lines, same_name,
+};
 use std::alloc::{AllocError, Global};
 
 fn is_seen(seen: &[Name], name: Name) -> bool
@@ -58,11 +60,11 @@ fn parts<'a>(alloc: Global, text: &'a [u8]) -> Result<(Test, Cursor<'a>), ReadEr
     ensures early { (e : LitmusError) → reads preamble 1 (text_pieces text.now []) ≡ Err e →
         (result ≡ Err (ReadError.Fault e)) × (e.kind ≢ Kind.NoMemory) }
 {
-    let (name, body) = preamble(text)?;
+    let (name, body) = read_preamble(text)?;
     let mut locations = Locations::new(alloc);
-    let (items, after) = block(alloc, &mut locations, Cursor::new(body))?;
-    let (threads, cells, after) = whole_table(alloc, &items, after)?;
-    let (quantifier, expr, end) = condition(alloc, &items, threads, &mut locations, after)?;
+    let (items, after) = read_block(alloc, &mut locations, Cursor::new(body))?;
+    let (threads, cells, after) = read_table(alloc, &items, after)?;
+    let (quantifier, expr, end) = read_condition(alloc, &items, threads, &mut locations, after)?;
     let name = Vec::from_slice(alloc, name)?;
     let mut seen = Vec::new(alloc);
     see(&mut seen, &expr)?;
@@ -101,7 +103,7 @@ fn read_whole(alloc: Global, text: &[u8]) -> Result<Test, LitmusError>
             kind: Kind::TooLarge,
         });
     }
-    let (lines, beyond) = reach(text);
+    let (lines, beyond) = readable_lines(text);
     match parts(alloc, lines) {
         Ok((test, _)) => {
             if is_cut_short(beyond.kind) {

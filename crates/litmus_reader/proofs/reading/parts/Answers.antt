@@ -26,6 +26,6 @@ invariant_of-test c =
       all_seen = seen;
       cells_there = cells_read _ _ _ _ c.in_ok-threads.ensures.read;
       names_there = subst (λ (names : List Name). list_all (is_there c.in_ok-threads.threads
-          (length c.condition.new.locations)) names ≡ true) (sym seen)
+          (length c.read_condition.new.locations)) names ≡ true) (sym seen)
           (names_read _ _ _ _ _ _ c.in_ok-quantifier.ensures);
     }

@@ -1,6 +1,6 @@
 use Rattle.std.proofs.Common.{rules}
 use Rattle.litmus_parser.proofs.TextPieces.{nothing_left, block_read, line_read, line_refused, line_same}
-use Rattle.litmus_parser.proofs.headers.header_line.Goals as goal
+use Rattle.litmus_parser.proofs.headers.read_header_line.Goals as goal
 
 pub returns-then-is_empty-clause-read : goal.returns-then-is_empty-clause-read
 returns-then-is_empty-clause-read c =

@@ -3,7 +3,7 @@ use Rattle.piece_forms.specs.Forms.{Gives, many}
 use Rattle.piece_forms.specs.Reading.{reads}
 use Rattle.litmus_parser.specs.Names.{address_of}
 use Rattle.litmus_parser.specs.Table.{column}
-use Rattle.litmus_parser.proofs.cells.columns.Given as goal
+use Rattle.litmus_parser.proofs.cells.read_thread_cells.Given as goal
 
 -- what is left to read is what all of it reads as
 abbrev pub invariant-loop-thread : goal.invariant-loop-thread

@@ -1,7 +1,7 @@
 use Rattle.std.proofs.Common.{rules}
 use Rattle.std.proofs.lemmas.Result.{err_from_is_err_and}
 use Rattle.piece_forms.proofs.Lemmas.{until-fails, until-goes, until-stops, until-out}
-use Rattle.litmus_parser.proofs.table.later_headings.Goals as goal
+use Rattle.litmus_parser.proofs.table.read_later_headings.Goals as goal
 
 pub returns-in_err-more-clause-read : goal.returns-in_err-more-clause-read
 returns-in_err-more-clause-read c =

@@ -1,7 +1,7 @@
 use Rattle.std.proofs.Common.{rules, refl}
 use Rattle.std.proofs.lemmas.Result.{err_from_is_err_and}
 use Rattle.piece_forms.proofs.Lemmas.{until-fails, until-goes, until-stops, until-out}
-use Rattle.litmus_parser.proofs.blocks.items.Goals as goal
+use Rattle.litmus_parser.proofs.blocks.read_items.Goals as goal
 
 pub loop-init : goal.loop-init
 loop-init c = rw c.new-items.ensures.items refl

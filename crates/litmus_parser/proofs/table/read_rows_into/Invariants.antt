@@ -4,7 +4,7 @@ use Rattle.piece_forms.specs.Forms.{one, many, refused}
 use Rattle.piece_forms.specs.Reading.{reads}
 use Rattle.litmus_parser.specs.Names.{address_of}
 use Rattle.litmus_parser.specs.Table.{row_or_condition, counted_row}
-use Rattle.litmus_parser.proofs.table.rows_into.Given as goal
+use Rattle.litmus_parser.proofs.table.read_rows_into.Given as goal
 
 -- what is left to read is what all of it reads as
 abbrev pub invariant-loop : goal.invariant-loop

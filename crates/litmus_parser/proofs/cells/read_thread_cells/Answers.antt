@@ -2,7 +2,7 @@ use Rattle.std.proofs.Common.{◌≡◌, ◌-◌, ℕ, ◌∙◌, ap, arith, ref
 use Rattle.std.proofs.lemmas.Result.{err_from_is_err_and}
 use Rattle.piece_forms.proofs.Lemmas.{until-fails, until-goes, until-out}
 use Rattle.litmus_parser.proofs.TableSteps.{column-goes, column-fails}
-use Rattle.litmus_parser.proofs.cells.columns.Goals as goal
+use Rattle.litmus_parser.proofs.cells.read_thread_cells.Goals as goal
 
 pub loop-thread-init : goal.loop-thread-init
 loop-thread-init c = let z : c.args.threads - 0 ≡ c.args.threads = omega arith in rw z refl

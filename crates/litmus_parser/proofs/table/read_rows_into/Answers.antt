@@ -1,7 +1,7 @@
 use Rattle.std.proofs.Common.{rules}
 use Rattle.std.proofs.lemmas.Result.{err_from_is_err_and}
 use Rattle.piece_forms.proofs.Lemmas.{until-fails, until-goes, until-stops, until-out}
-use Rattle.litmus_parser.proofs.table.rows_into.Goals as goal
+use Rattle.litmus_parser.proofs.table.read_rows_into.Goals as goal
 
 pub returns-in_err-more : goal.returns-in_err-more
 returns-in_err-more c =

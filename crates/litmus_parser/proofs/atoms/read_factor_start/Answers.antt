@@ -1,7 +1,7 @@
 use Rattle.std.proofs.Common.{rules}
 use Rattle.std.proofs.lemmas.Result.{err_from_is_err_and}
 use Rattle.litmus_parser.proofs.ConditionSteps.{start-fails}
-use Rattle.litmus_parser.proofs.atoms.factor_start.Goals as goal
+use Rattle.litmus_parser.proofs.atoms.read_factor_start.Goals as goal
 
 pub returns-in_err-start-in-Some-Word-default-clause-read : goal.returns-in_err-start-in-Some-Word-default-clause-read
 returns-in_err-start-in-Some-Word-default-clause-read c =

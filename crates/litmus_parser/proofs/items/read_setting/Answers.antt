@@ -3,7 +3,7 @@ use Rattle.std.proofs.lemmas.Result.{err_from_is_err_and}
 use Rattle.litmus_lexer.specs.declared.errors.Kind.TheVariants.{BadInitial}
 use Rattle.litmus_parser.specs.Block.{setting}
 use Rattle.litmus_parser.proofs.ConditionSteps.{word-fails}
-use Rattle.litmus_parser.proofs.items.setting.Goals as goal
+use Rattle.litmus_parser.proofs.items.read_setting.Goals as goal
 
 pub returns-in_err-setting-in-Some-Word-default : goal.returns-in_err-setting-in-Some-Word-default
 returns-in_err-setting-in-Some-Word-default c =

@@ -3,7 +3,7 @@ use Rattle.litmus_lexer.specs.declared.errors.Kind.TheVariants.{BadTable}
 use Rattle.piece_forms.specs.Forms.{many, refused}
 use Rattle.piece_forms.specs.Reading.{reads}
 use Rattle.litmus_parser.specs.Table.{separator, further_heading}
-use Rattle.litmus_parser.proofs.table.later_headings.Given as goal
+use Rattle.litmus_parser.proofs.table.read_later_headings.Given as goal
 
 -- what is left to read is what all of it reads as
 abbrev pub invariant-loop : goal.invariant-loop

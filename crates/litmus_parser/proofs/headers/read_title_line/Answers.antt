@@ -1,6 +1,6 @@
 use Rattle.std.proofs.Common.{rules}
 use Rattle.litmus_parser.proofs.TextPieces.{nothing_read, title_read}
-use Rattle.litmus_parser.proofs.headers.first_line.Goals as goal
+use Rattle.litmus_parser.proofs.headers.read_title_line.Goals as goal
 
 pub returns-then-is_empty-clause-read : goal.returns-then-is_empty-clause-read
 returns-then-is_empty-clause-read c = rw c.fault.ensures (nothing_read c.args.text.now (search rules))

@@ -3,7 +3,7 @@ use Rattle.std.proofs.lemmas.Result.{err_from_is_err_and}
 use Rattle.text_lines.specs.Lines.{behind_line_feed}
 use Rattle.piece_forms.proofs.Lemmas.{until-fails, until-goes, until-stops, until-out}
 use Rattle.litmus_parser.proofs.TextPieces.{behind-suc}
-use Rattle.litmus_parser.proofs.headers.header.Goals as goal
+use Rattle.litmus_parser.proofs.headers.read_header_lines.Goals as goal
 
 pub loop-init : goal.loop-init
 loop-init c = record { read = refl; body = (0, omega arith, refl) }

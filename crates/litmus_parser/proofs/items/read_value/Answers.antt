@@ -2,7 +2,7 @@ use Rattle.std.proofs.Common.{rules}
 use Rattle.std.proofs.lemmas.Result.{err_from_is_err_and}
 use Rattle.litmus_parser.specs.Words.{value}
 use Rattle.litmus_parser.proofs.ConditionSteps.{word-fails}
-use Rattle.litmus_parser.proofs.items.value.Goals as goal
+use Rattle.litmus_parser.proofs.items.read_value.Goals as goal
 
 pub returns-in_err-value-in-Some-Word-default : goal.returns-in_err-value-in-Some-Word-default
 returns-in_err-value-in-Some-Word-default c =

@@ -3,7 +3,7 @@ use Rattle.litmus_lexer.specs.declared.errors.Kind.TheVariants.{BadHeader, CutSh
 use Rattle.piece_forms.specs.Forms.{one, line_end, many, refused}
 use Rattle.piece_forms.specs.Reading.{reads}
 use Rattle.litmus_parser.specs.Header.{text_pieces, behind_lines, line_or_block}
-use Rattle.litmus_parser.proofs.headers.header.Given as goal
+use Rattle.litmus_parser.proofs.headers.read_header_lines.Given as goal
 
 -- what is left to read is what all of it reads as, and stands behind some lines
 abbrev pub invariant-loop : goal.invariant-loop

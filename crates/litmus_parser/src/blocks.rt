@@ -15,7 +15,7 @@ use litmus_lexer::{
     CLOSING_BRACE, Cursor, Kind, Locations, MOST_BYTES, MOST_THREADS, OPENING_BRACE, ReadError,
     SEMICOLON, Token,
 };
-use piece_forms::{ahead, end_line, expect_sign};
+use piece_forms::{expect_line_end, expect_sign, next_piece};
 use std::alloc::Global;
 
 /// Whether an item may follow: the position after a `;` or a `}`.
@@ -24,7 +24,7 @@ fn read_item_separator<'a>(cursor: Cursor<'a>) -> Result<(bool, Cursor<'a>), Rea
         (reads (one (either_sign BadInitial SEMICOLON CLOSING_BRACE))
         cursor.entry.line cursor.entry.pieces) }
 {
-    match ahead(&cursor) {
+    match next_piece(&cursor) {
         (Some(Token::Sign(SEMICOLON)), after) => Ok((true, after)),
         (Some(Token::Sign(CLOSING_BRACE)), after) => Ok((false, after)),
         (Some(_), after) => Err(after.fault(Kind::BadInitial)),
@@ -71,7 +71,7 @@ fn read_item_or_brace<'a>(
         (reads (one (item_or_brace locations.old)) cursor.entry.line cursor.entry.pieces) }
     ensures same { IfOk result (λ r. r.0 ≡ None → locations.new ≡ locations.old) }
 {
-    match ahead(&cursor) {
+    match next_piece(&cursor) {
         (Some(Token::Word(first)), after) => {
             let opening = item_opening(MOST_THREADS, locations, first, &after, Kind::BadInitial)?;
             Ok((Some(opening), after))
@@ -133,6 +133,6 @@ pub fn read_block<'a>(
 {
     let after = expect_sign(cursor, Kind::BadInitial, OPENING_BRACE)?;
     let (items, after) = read_items(alloc, locations, after)?;
-    let after = end_line(after, Kind::BadInitial)?;
+    let after = expect_line_end(after, Kind::BadInitial)?;
     Ok((items, after))
 }

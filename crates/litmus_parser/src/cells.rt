@@ -15,7 +15,7 @@ use crate::forms::{Form, read_instruction_form};
 use crate::instructions::instruction_of_form;
 use crate::syntax::{Cell, Instruction, Item, Width};
 use litmus_lexer::{BAR, Cursor, Kind, ReadError, SEMICOLON, Token, next_token};
-use piece_forms::{end_line, first};
+use piece_forms::{expect_line_end, next_piece_or_line_end};
 
 fn is_at_line_end(text: &[u8]) -> bool
     ensures { result ≡ ends_here (pieces_of text.now) }
@@ -59,7 +59,7 @@ fn skip_cell_end<'a>(closing: u8, cursor: Cursor<'a>) -> (bool, Cursor<'a>)
     ensures { reads (perhaps InLine (is_sign closing)) cursor.entry.line cursor.entry.pieces
         ≡ Ok (result.0, result.1.line, result.1.pieces) }
 {
-    match first(&cursor) {
+    match next_piece_or_line_end(&cursor) {
         (Some(Token::Sign(sign)), after) if sign == closing => (true, after),
         _ => (false, cursor),
     }
@@ -81,7 +81,7 @@ fn read_cell_end<'a>(
         else Refuses BadInstruction))
         cursor.entry.line cursor.entry.pieces) }
 {
-    match first(&cursor) {
+    match next_piece_or_line_end(&cursor) {
         (Some(Token::Sign(sign)), after) if sign == closing => {
             let meant = instruction_of_form(items, thread, width, form, &cursor)?;
             Ok((meant, after))
@@ -200,6 +200,6 @@ pub fn read_row<'a>(
         return Err(cursor.fault(Kind::BadTable));
     }
     let (width, after) = read_thread_cells(items, cells, threads, width, cursor)?;
-    let after = end_line(after, Kind::BadTable)?;
+    let after = expect_line_end(after, Kind::BadTable)?;
     Ok((width, after))
 }

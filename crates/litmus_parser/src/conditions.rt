@@ -15,7 +15,7 @@ use crate::expressions::{Connective, expression};
 use crate::syntax::{Expr, Item, Quantifier};
 use crate::table::quantifier_named;
 use litmus_lexer::{Cursor, Kind, Locations, MOST_DEPTH, ReadError, Token};
-use piece_forms::{ahead, expect_end};
+use piece_forms::{expect_end, next_piece};
 use std::alloc::Global;
 
 fn read_quantifier<'a>(cursor: Cursor<'a>) -> Result<(Quantifier, Cursor<'a>), ReadError>
@@ -23,7 +23,7 @@ fn read_quantifier<'a>(cursor: Cursor<'a>) -> Result<(Quantifier, Cursor<'a>), R
         (one (word BadTable (λ w. ok_or (quantifier_of w) BadTable)))
         cursor.entry.line cursor.entry.pieces) }
 {
-    match ahead(&cursor) {
+    match next_piece(&cursor) {
         (Some(Token::Word(word)), after) => match quantifier_named(word) {
             Some(quantifier) => Ok((quantifier, after)),
             None => Err(after.fault(Kind::BadTable)),

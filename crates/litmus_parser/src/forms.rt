@@ -13,9 +13,9 @@ ghost use Rattle.litmus_lexer.specs.declared.errors.Kind.TheVariants.{BadInstruc
 use crate::syntax::Width;
 use litmus_lexer::{
     CLOSING_PARENTHESIS, COMMA, Cursor, Kind, MOST_ORI, OPENING_PARENTHESIS, ReadError, Token,
-    VALUE_BOUND, is_number, number, register,
+    VALUE_BOUND, capped_number, is_number, register_number,
 };
-use piece_forms::{expect_here, first};
+use piece_forms::{expect_sign_in_line, next_piece_or_line_end};
 
 /// What the first word of an instruction names.
 #[derive(Clone, Copy)]
@@ -96,8 +96,8 @@ fn is_fence_set(word: &[u8]) -> bool
 fn read_register<'a>(cursor: Cursor<'a>) -> Result<(u8, Cursor<'a>), ReadError>
     ensures { Gives view_read result (reads register cursor.entry.line cursor.entry.pieces) }
 {
-    match first(&cursor) {
-        (Some(Token::Word(word)), after) => match register(word) {
+    match next_piece_or_line_end(&cursor) {
+        (Some(Token::Word(word)), after) => match register_number(word) {
             Some(number) => Ok((number, after)),
             None => Err(cursor.fault(Kind::BadInstruction)),
         },
@@ -109,12 +109,12 @@ fn read_register<'a>(cursor: Cursor<'a>) -> Result<(u8, Cursor<'a>), ReadError>
 fn read_number<'a>(cursor: Cursor<'a>) -> Result<(u32, Cursor<'a>), ReadError>
     ensures { Gives view_read result (reads number cursor.entry.line cursor.entry.pieces) }
 {
-    match first(&cursor) {
+    match next_piece_or_line_end(&cursor) {
         (Some(Token::Word(word)), after) => {
             if !is_number(word) {
                 return Err(cursor.fault(Kind::BadInstruction));
             }
-            Ok((number(word), after))
+            Ok((capped_number(word), after))
         }
         _ => Err(cursor.fault(Kind::BadInstruction)),
     }
@@ -126,7 +126,7 @@ fn expect_operand_word<'a>(cursor: Cursor<'a>, wanted: &[u8]) -> Result<Cursor<'
         (reads (operand (λ w. passes (bytes_eq w wanted.now))) cursor.entry.line
         cursor.entry.pieces) }
 {
-    match first(&cursor) {
+    match next_piece_or_line_end(&cursor) {
         (Some(Token::Word(word)), after) if same_word(word, wanted) => Ok(after),
         _ => Err(cursor.fault(Kind::BadInstruction)),
     }
@@ -137,7 +137,7 @@ fn read_fence_set<'a>(cursor: Cursor<'a>) -> Result<Cursor<'a>, ReadError>
     ensures { Gives (λ at. (tt, at.line, at.pieces)) result
         (reads (operand (λ w. passes (is_fence_set w))) cursor.entry.line cursor.entry.pieces) }
 {
-    match first(&cursor) {
+    match next_piece_or_line_end(&cursor) {
         (Some(Token::Word(word)), after) => {
             if is_fence_set(word) {
                 Ok(after)
@@ -155,7 +155,7 @@ fn read_mnemonic<'a>(cursor: Cursor<'a>) -> Result<(Mnemonic, Cursor<'a>), ReadE
         (reads (operand (λ w. ok_or (mnemonic_of w) BadInstruction))
         cursor.entry.line cursor.entry.pieces) }
 {
-    match first(&cursor) {
+    match next_piece_or_line_end(&cursor) {
         (Some(Token::Word(word)), after) => match mnemonic_named(word) {
             Some(mnemonic) => Ok((mnemonic, after)),
             None => Err(cursor.fault(Kind::BadInstruction)),
@@ -169,9 +169,9 @@ fn read_mnemonic<'a>(cursor: Cursor<'a>) -> Result<(Mnemonic, Cursor<'a>), ReadE
 fn read_base_register<'a>(cursor: Cursor<'a>) -> Result<(u8, Cursor<'a>), ReadError>
     ensures { Gives view_read result (reads base cursor.entry.line cursor.entry.pieces) }
 {
-    let after = expect_here(cursor, Kind::BadInstruction, OPENING_PARENTHESIS)?;
+    let after = expect_sign_in_line(cursor, Kind::BadInstruction, OPENING_PARENTHESIS)?;
     let (base, after) = read_register(after)?;
-    let after = expect_here(after, Kind::BadInstruction, CLOSING_PARENTHESIS)?;
+    let after = expect_sign_in_line(after, Kind::BadInstruction, CLOSING_PARENTHESIS)?;
     Ok((base, after))
 }
 
@@ -181,7 +181,7 @@ fn read_offset_operands<'a>(cursor: Cursor<'a>) -> Result<((u8, u8), Cursor<'a>)
     ensures { Gives view_read result (reads offset cursor.entry.line cursor.entry.pieces) }
 {
     let (first, after) = read_register(cursor)?;
-    let after = expect_here(after, Kind::BadInstruction, COMMA)?;
+    let after = expect_sign_in_line(after, Kind::BadInstruction, COMMA)?;
     let after = expect_operand_word(after, b"0")?;
     let (base, after) = read_base_register(after)?;
     Ok(((first, base), after))
@@ -193,9 +193,9 @@ fn read_swap_operands<'a>(cursor: Cursor<'a>) -> Result<((u8, u8, u8), Cursor<'a
     ensures { Gives view_read result (reads swapped cursor.entry.line cursor.entry.pieces) }
 {
     let (target, after) = read_register(cursor)?;
-    let after = expect_here(after, Kind::BadInstruction, COMMA)?;
+    let after = expect_sign_in_line(after, Kind::BadInstruction, COMMA)?;
     let (source, after) = read_register(after)?;
-    let after = expect_here(after, Kind::BadInstruction, COMMA)?;
+    let after = expect_sign_in_line(after, Kind::BadInstruction, COMMA)?;
     let (base, after) = read_base_register(after)?;
     Ok(((target, source, base), after))
 }
@@ -206,7 +206,7 @@ fn read_li_operands<'a>(cursor: Cursor<'a>) -> Result<((u8, u32), Cursor<'a>), R
     ensures { Gives view_read result (reads numbered cursor.entry.line cursor.entry.pieces) }
 {
     let (target, after) = read_register(cursor)?;
-    let after = expect_here(after, Kind::BadInstruction, COMMA)?;
+    let after = expect_sign_in_line(after, Kind::BadInstruction, COMMA)?;
     let (value, after) = read_number(after)?;
     Ok(((target, value), after))
 }
@@ -217,9 +217,9 @@ fn read_ori_operands<'a>(cursor: Cursor<'a>) -> Result<((u8, u32), Cursor<'a>), 
     ensures { Gives view_read result (reads or_numbered cursor.entry.line cursor.entry.pieces) }
 {
     let (target, after) = read_register(cursor)?;
-    let after = expect_here(after, Kind::BadInstruction, COMMA)?;
+    let after = expect_sign_in_line(after, Kind::BadInstruction, COMMA)?;
     let after = expect_operand_word(after, b"x0")?;
-    let after = expect_here(after, Kind::BadInstruction, COMMA)?;
+    let after = expect_sign_in_line(after, Kind::BadInstruction, COMMA)?;
     let (value, after) = read_number(after)?;
     Ok(((target, value), after))
 }
@@ -231,7 +231,7 @@ fn read_fence_operands<'a>(cursor: Cursor<'a>) -> Result<Cursor<'a>, ReadError>
         (reads sets cursor.entry.line cursor.entry.pieces) }
 {
     let after = read_fence_set(cursor)?;
-    let after = expect_here(after, Kind::BadInstruction, COMMA)?;
+    let after = expect_sign_in_line(after, Kind::BadInstruction, COMMA)?;
     let after = read_fence_set(after)?;
     Ok(after)
 }

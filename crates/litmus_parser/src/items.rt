@@ -15,9 +15,9 @@ ghost use Rattle.litmus_parser.specs.Block.{setting, rest_of_item};
 use crate::syntax::{Item, Name, Setting};
 use litmus_lexer::{
     COLON, Cursor, EQUALS, Kind, LAST_THREAD, Locations, MOST_LOCATIONS, ReadError, Token,
-    VALUE_BOUND, is_location, is_number, number, register, small,
+    VALUE_BOUND, capped_number, is_location, is_number, register_number, small_number,
 };
-use piece_forms::{ahead, expect_sign};
+use piece_forms::{expect_sign, next_piece};
 
 /// What an item begins with.
 #[derive(Clone, Copy)]
@@ -100,7 +100,7 @@ fn value_of_word(word: &[u8], at: &Cursor<'_>, kind: Kind) -> Result<u32, ReadEr
     if !is_number(word) {
         return Err(at.fault(kind));
     }
-    let value = number(word);
+    let value = capped_number(word);
     if value == VALUE_BOUND {
         return Err(at.fault(Kind::ValueRange));
     }
@@ -112,7 +112,7 @@ fn read_value<'a>(cursor: Cursor<'a>, kind: Kind) -> Result<(u32, Cursor<'a>), R
     ensures { Gives view_read result
         (reads (one (word kind (value kind))) cursor.entry.line cursor.entry.pieces) }
 {
-    match ahead(&cursor) {
+    match next_piece(&cursor) {
         (Some(Token::Word(word)), after) => {
             let value = value_of_word(word, &after, kind)?;
             Ok((value, after))
@@ -143,7 +143,7 @@ pub fn item_opening(
     ensures { Gives (λ opening. (opening, locations.new)) result
         (judged (opening kind threads word.now locations.old) at.now.line) }
 {
-    match small(word, LAST_THREAD) {
+    match small_number(word, LAST_THREAD) {
         Some(thread) if thread < threads => Ok(Opening::OfThread(thread)),
         Some(_) => Err(at.fault(kind)),
         None => {
@@ -178,7 +178,7 @@ fn read_setting<'a>(
         (reads (one (word BadInitial (setting locations.old)))
         cursor.entry.line cursor.entry.pieces) }
 {
-    match ahead(&cursor) {
+    match next_piece(&cursor) {
         (Some(Token::Word(word)), after) => {
             let setting = setting_of_word(locations, word, &after)?;
             Ok((setting, after))
@@ -194,8 +194,8 @@ fn read_settable_register<'a>(cursor: Cursor<'a>) -> Result<(u8, Cursor<'a>), Re
         (reads (one (word BadInitial (λ w. named_register BadInitial (register_of w))))
         cursor.entry.line cursor.entry.pieces) }
 {
-    match ahead(&cursor) {
-        (Some(Token::Word(word)), after) => match register(word) {
+    match next_piece(&cursor) {
+        (Some(Token::Word(word)), after) => match register_number(word) {
             None | Some(0) => Err(after.fault(Kind::BadInitial)),
             Some(register) => Ok((register, after)),
         },

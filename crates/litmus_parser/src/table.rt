@@ -17,9 +17,9 @@ use crate::cells::read_row;
 use crate::forms::same_word;
 use crate::syntax::{Cell, Item, Name, Quantifier, Width};
 use litmus_lexer::{
-    BAR, Cursor, Kind, MOST_ROWS, MOST_THREADS, ReadError, SEMICOLON, Token, small,
+    BAR, Cursor, Kind, MOST_ROWS, MOST_THREADS, ReadError, SEMICOLON, Token, small_number,
 };
-use piece_forms::{ahead, end_line, first, from_next};
+use piece_forms::{expect_line_end, next_piece, next_piece_or_line_end, next_piece_position};
 use std::alloc::Global;
 
 /// The number of the thread that a heading names, at most 16.
@@ -27,7 +27,7 @@ fn thread_named(word: &[u8]) -> Option<u8>
     ensures { result ≡ thread_named word.now }
 {
     match word {
-        [b'P', number @ ..] => small(number, MOST_THREADS),
+        [b'P', number @ ..] => small_number(number, MOST_THREADS),
         _ => None,
     }
 }
@@ -37,7 +37,7 @@ fn read_first_heading<'a>(cursor: Cursor<'a>) -> Result<Cursor<'a>, ReadError>
     ensures { Gives (λ at. (tt, at.line, at.pieces)) result
         (reads (one (heading 0)) cursor.entry.line cursor.entry.pieces) }
 {
-    match ahead(&cursor) {
+    match next_piece(&cursor) {
         (Some(Token::Word(word)), after) => match thread_named(word) {
             Some(0) => Ok(after),
             _ => Err(after.fault(Kind::BadTable)),
@@ -53,7 +53,7 @@ fn read_heading_separator<'a>(cursor: Cursor<'a>) -> Result<(bool, Cursor<'a>), 
         (reads (here BadTable (either_sign BadTable BAR SEMICOLON)) cursor.entry.line
         cursor.entry.pieces) }
 {
-    match first(&cursor) {
+    match next_piece_or_line_end(&cursor) {
         (Some(Token::Sign(BAR)), after) => Ok((true, after)),
         (Some(Token::Sign(SEMICOLON)), after) => Ok((false, after)),
         _ => Err(cursor.fault(Kind::BadTable)),
@@ -66,7 +66,7 @@ fn read_thread_heading<'a>(thread: u8, cursor: Cursor<'a>) -> Result<Cursor<'a>,
         (reads (here BadTable (heading thread)) cursor.entry.line cursor.entry.pieces) }
     ensures few { OnOk result (thread < MOST_THREADS) }
 {
-    match first(&cursor) {
+    match next_piece_or_line_end(&cursor) {
         (Some(Token::Word(word)), after) => {
             if thread_named(word) != Some(thread) {
                 return Err(cursor.fault(Kind::BadTable));
@@ -129,7 +129,7 @@ fn read_header_row<'a>(cursor: Cursor<'a>) -> Result<(u8, Cursor<'a>), ReadError
 {
     let after = read_first_heading(cursor)?;
     let (threads, after) = read_later_headings(after)?;
-    let after = end_line(after, Kind::BadTable)?;
+    let after = expect_line_end(after, Kind::BadTable)?;
     Ok((threads, after))
 }
 
@@ -173,21 +173,21 @@ fn table_row_begins<'a>(count: u16, cursor: Cursor<'a>) -> Result<(bool, Cursor<
     ensures { Gives view_read result
         (reads (one (row_or_condition count)) cursor.entry.line cursor.entry.pieces) }
 {
-    match ahead(&cursor) {
+    match next_piece(&cursor) {
         (Some(Token::Word(word)), after) => {
             if quantifier_named(word).is_some() {
-                return Ok((false, from_next(&cursor)));
+                return Ok((false, next_piece_position(&cursor)));
             }
             if count >= MOST_ROWS {
                 return Err(after.fault(Kind::TooLarge));
             }
-            Ok((true, from_next(&cursor)))
+            Ok((true, next_piece_position(&cursor)))
         }
         (Some(_), after) => {
             if count >= MOST_ROWS {
                 return Err(after.fault(Kind::TooLarge));
             }
-            Ok((true, from_next(&cursor)))
+            Ok((true, next_piece_position(&cursor)))
         }
         (None, end) => Err(end.fault(Kind::CutShort)),
     }

@@ -7,13 +7,13 @@ use Rattle.litmus_lexer.proofs.tokens.next_token.Goals.{then-is_letter, else-is_
 
 pub returns-in_err-first-clause-pieces : goal.returns-in_err-first-clause-pieces
 returns-in_err-first-clause-pieces c =
-    rw c.from_residual.ensures (pieces-none _ _ c.blank_count.ensures.count (sym c.split_at.ensures.back
+    rw c.from_residual.ensures (pieces-none _ _ c.count_leading_blanks.ensures.count (sym c.split_at.ensures.back
     ∙ nil_from_length _ c.in_err-first.ensures.cases))
 
 pub returns-then-first-eq10-clause-pieces : goal.returns-then-first-eq10-clause-pieces
 returns-then-first-eq10-clause-pieces c =
     pieces-line_end _ _ _ _ (record {
-      blanks = c.blank_count.ensures.count;
+      blanks = c.count_leading_blanks.ensures.count;
       first = sym c.split_at.ensures.back
           ∙ c.in_ok-first.ensures.cases.0;
     }) c.if-first-eq10.true
@@ -21,7 +21,7 @@ returns-then-first-eq10-clause-pieces c =
 pub returns-else-is_slash-clause-pieces : goal.returns-else-is_slash-clause-pieces
 returns-else-is_slash-clause-pieces c =
     pieces-sign _ _ _ _ (record {
-      blanks = c.blank_count.ensures.count;
+      blanks = c.count_leading_blanks.ensures.count;
       first = sym c.split_at.ensures.back
           ∙ c.in_ok-first.ensures.cases.0;
     })
@@ -31,18 +31,18 @@ pub returns-clause-pieces : goal.returns-clause-pieces
 returns-clause-pieces c = elim c.if-is_letter.branch [
   | then-is_letter w ↦ pieces-word_split is_letter letters _ _ _ _
       (record {
-        blanks = c.blank_count.ensures.count;
+        blanks = c.count_leading_blanks.ensures.count;
         first = sym c.split_at.ensures.back
             ∙ c.in_ok-first.ensures.cases.0;
       })
-      (sym w.if-is_letter.ensures) _ c.in_ok-first.ensures.cases.0 _ (w.len-is ∙ w.letter_count-len.ensures.count) _ _
-      c.split_at-2.ensures.front c.split_at-2.ensures.back
+      (sym w.if-is_letter.ensures) _ c.in_ok-first.ensures.cases.0 _ (w.len-is ∙ w.count_leading_letters-len.ensures.count)
+      _ _ c.split_at-2.ensures.front c.split_at-2.ensures.back
   | else-is_letter+then-is_slash w ↦ pieces-word_split is_slash slashes _ _ _ _
       (record {
-        blanks = c.blank_count.ensures.count;
+        blanks = c.count_leading_blanks.ensures.count;
         first = sym c.split_at.ensures.back
             ∙ c.in_ok-first.ensures.cases.0;
       })
-      (sym w.if-is_slash.ensures) _ c.in_ok-first.ensures.cases.0 _ (w.len-is ∙ w.slash_count.ensures.count) _ _
-      c.split_at-2.ensures.front c.split_at-2.ensures.back
+      (sym w.if-is_slash.ensures) _ c.in_ok-first.ensures.cases.0 _ (w.len-is ∙ w.count_leading_slashes.ensures.count)
+      _ _ c.split_at-2.ensures.front c.split_at-2.ensures.back
 ]

@@ -8,4 +8,4 @@ returns-in_err-start-in-Some-Word-default-clause-read c =
     let p = err_from_is_err_and c.from_residual.result c.from_residual.ensures.1 in
     rw (p.1, p.2) (start-fails c.args.threads c.args.depth c.args.atoms c.args.cursor.line c.args.locations.now
     c.args.cursor.pieces c.in-Some-Word-default.word.now _ _ (search rules)
-    c.ahead.ensures.line c.ahead.ensures.rest _ c.in_err-start-in-Some-Word-default.ensures)
+    c.next_piece.ensures.line c.next_piece.ensures.rest _ c.in_err-start-in-Some-Word-default.ensures)

@@ -9,5 +9,5 @@ pub returns-in_err-setting-in-Some-Word-default : goal.returns-in_err-setting-in
 returns-in_err-setting-in-Some-Word-default c =
     let p = err_from_is_err_and c.from_residual.result c.from_residual.ensures.1 in
     rw (p.1, p.2) (word-fails BadInitial (setting c.args.locations.now) c.args.cursor.line c.args.cursor.pieces
-    c.in-Some-Word-default.word.now _ (search rules) c.ahead.ensures.line _
+    c.in-Some-Word-default.word.now _ (search rules) c.next_piece.ensures.line _
     c.in_err-setting-in-Some-Word-default.ensures)

@@ -8,5 +8,5 @@ pub returns-in_err-value-in-Some-Word-default : goal.returns-in_err-value-in-Som
 returns-in_err-value-in-Some-Word-default c =
     let p = err_from_is_err_and c.from_residual.result c.from_residual.ensures.1 in
     rw (p.1, p.2) (word-fails c.args.kind (value c.args.kind) c.args.cursor.line c.args.cursor.pieces
-    c.in-Some-Word-default.word.now _ (search rules) c.ahead.ensures.line _
+    c.in-Some-Word-default.word.now _ (search rules) c.next_piece.ensures.line _
     c.in_err-value-in-Some-Word-default.ensures)

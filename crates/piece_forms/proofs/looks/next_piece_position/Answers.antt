@@ -1,5 +1,5 @@
 use Rattle.piece_forms.proofs.Places.{from-past}
-use Rattle.piece_forms.proofs.looks.from_next.Goals as goal
+use Rattle.piece_forms.proofs.looks.next_piece_position.Goals as goal
 
 pub returns-clause-rest : goal.returns-clause-rest
 returns-clause-rest c =

@@ -9,7 +9,7 @@ use Rattle.litmus_reader.specs.Seen.{seen_in}
 use Rattle.litmus_reader.specs.WellFormed.{is_there}
 use Rattle.litmus_reader.proofs.Fault.{no-memory}
 use Rattle.litmus_reader.proofs.WellFormedTests.{cells_read, names_read}
-use Rattle.litmus_reader.proofs.reading.parts.Goals as goal
+use Rattle.litmus_reader.proofs.reading.read_parts.Goals as goal
 
 pub returns-in_err-name-clause-early : goal.returns-in_err-name-clause-early
 returns-in_err-name-clause-early c = λ e is.
@@ -20,7 +20,7 @@ returns-in_err-name-clause-early c = λ e is.
 
 pub invariant_of-test : goal.invariant_of-test
 invariant_of-test c =
-    let seen = c.in_ok-see.ensures ∙ ap (seen_in (tree_of c.in_ok-quantifier.expr)) c.new-seen.ensures.items in
+    let seen = c.in_ok-add_seen_names.ensures ∙ ap (seen_in (tree_of c.in_ok-quantifier.expr)) c.new-seen.ensures.items in
     record {
       few = c.in_ok-threads.ensures.few;
       all_seen = seen;

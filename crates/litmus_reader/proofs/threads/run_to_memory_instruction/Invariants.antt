@@ -1,6 +1,6 @@
 use Rattle.std.proofs.Common.{◌≡◌, length}
 use Rattle.litmus_reader.specs.ThreadSteps.{settled_thread}
-use Rattle.litmus_reader.proofs.threads.settle.Given as goal
+use Rattle.litmus_reader.proofs.threads.run_to_memory_instruction.Given as goal
 
 abbrev pub invariant-loop-cell : goal.invariant-loop-cell
 invariant-loop-cell l =

@@ -35,14 +35,14 @@ returns-clause-pieces c = elim c.if-is_letter.branch [
         first = sym c.split_at.ensures.back
             ∙ c.in_ok-first.ensures.cases.0;
       })
-      (sym w.if-is_letter.ensures) _ c.in_ok-first.ensures.cases.0 _ (w.len-is ∙ w.count_leading_letters-len.ensures.count)
-      _ _ c.split_at-2.ensures.front c.split_at-2.ensures.back
+      (sym w.if-is_letter.ensures) _ c.in_ok-first.ensures.cases.0 _
+      (w.len-is ∙ w.count_leading_letters-len.ensures.count) _ _ c.split_at-2.ensures.front c.split_at-2.ensures.back
   | else-is_letter+then-is_slash w ↦ pieces-word_split is_slash slashes _ _ _ _
       (record {
         blanks = c.count_leading_blanks.ensures.count;
         first = sym c.split_at.ensures.back
             ∙ c.in_ok-first.ensures.cases.0;
       })
-      (sym w.if-is_slash.ensures) _ c.in_ok-first.ensures.cases.0 _ (w.len-is ∙ w.count_leading_slashes.ensures.count)
-      _ _ c.split_at-2.ensures.front c.split_at-2.ensures.back
+      (sym w.if-is_slash.ensures) _ c.in_ok-first.ensures.cases.0 _
+      (w.len-is ∙ w.count_leading_slashes.ensures.count) _ _ c.split_at-2.ensures.front c.split_at-2.ensures.back
 ]

@@ -1,7 +1,7 @@
 use Rattle.std.proofs.Common.{◌==◌, arith, w8}
 use Rattle.std.proofs.lemmas.Simd.{bitmask_splat, length-chunk}
 use lib.Lanes.{chunk}
-use Rattle.text_lines.proofs.first_lines.line_feeds.Goals as goal
+use Rattle.text_lines.proofs.first_lines.line_feed_mask.Goals as goal
 
 pub returns : goal.returns
 returns c =

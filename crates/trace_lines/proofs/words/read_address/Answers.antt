@@ -4,7 +4,7 @@ use Rattle.std.specs.Prelude.{option_map}
 use Rattle.trace_lines.specs.Fields.{fields_of}
 use Rattle.trace_lines.specs.Views.{view_fields_read}
 use Rattle.trace_lines.proofs.HexBound.{address-front, word-read}
-use Rattle.trace_lines.proofs.words.address.Goals as goal
+use Rattle.trace_lines.proofs.words.read_address.Goals as goal
 
 pub returns-in_err-byte-clause-number : goal.returns-in_err-byte-clause-number
 returns-in_err-byte-clause-number c =

@@ -11,7 +11,7 @@ ghost use Rattle.trace_texts.specs.Reports.{kinds_of, loads_among, stores_among,
 ghost use Rattle.trace_texts.specs.Reports.{kinds_text, told_text, trace_end_text, trace_text};
 ghost use Rattle.trace_texts.specs.Reports.{words_text};
 
-use crate::verdicts::put_order;
+use crate::verdicts::put_order_verdict;
 use network::Counts;
 use physiological_order::{Memory, Op, Record, Verdict, WordAddr, check};
 use programs::End;
@@ -108,7 +108,7 @@ fn swaps_among(records: &[Record]) -> usize
 }
 
 // The cores, how many operations were issued and completed, and how the run ended.
-fn put_ends(
+fn put_run_end(
     out: &mut Vec<u8>,
     layout: Layout,
     cores: u32,
@@ -124,7 +124,7 @@ fn put_ends(
 }
 
 // How many loads, stores and swaps there are among the completed operations.
-fn put_kinds(out: &mut Vec<u8>, layout: Layout, done: &Kinds) -> Result<(), AllocError>
+fn put_operation_kinds(out: &mut Vec<u8>, layout: Layout, done: &Kinds) -> Result<(), AllocError>
     ensures { OnOk result (out.new.items ≡ out.old.items ++ kinds_text layout done.now) }
 {
     put_field(out, layout, b"loads", done.loads as u128)?;
@@ -133,7 +133,7 @@ fn put_kinds(out: &mut Vec<u8>, layout: Layout, done: &Kinds) -> Result<(), Allo
 }
 
 // Each word with its value, in order.
-fn put_values(
+fn put_word_values(
     out: &mut Vec<u8>,
     layout: Layout,
     values: &[(WordAddr, u64)],
@@ -170,7 +170,7 @@ pub fn trace_text(
     let issued = trace.into_issued()?;
     let verdict = check(alloc, &Memory::new(alloc), &issued, records)?;
     let done = Kinds::of(records);
-    let mut text = report_with(alloc, layout, cores, run, verdict, &done, values)?;
+    let mut text = report_with_verdict(alloc, layout, cores, run, verdict, &done, values)?;
     put_closing(&mut text, layout)?;
     Ok(text)
 }
@@ -206,12 +206,12 @@ pub fn told_trace_text(
     ensures { IfOk result (λ text.
         text.items ≡ told_text layout cores run.now Verdict.Legal done.now values.now) }
 {
-    report_with(alloc, layout, cores, run, Verdict::Legal, done, values)
+    report_with_verdict(alloc, layout, cores, run, Verdict::Legal, done, values)
 }
 
 // The report without what closes it, with this verdict on the records.
 #[tactic(auto, unfolding(crate::specs::Reports::told_text))]
-fn report_with(
+fn report_with_verdict(
     alloc: Global,
     layout: Layout,
     cores: u32,
@@ -225,11 +225,11 @@ fn report_with(
 {
     let mut out = Vec::new(alloc);
     put_opening(&mut out, layout, b"trace")?;
-    put_ends(&mut out, layout, cores, run, done.completed)?;
-    put_kinds(&mut out, layout, done)?;
+    put_run_end(&mut out, layout, cores, run, done.completed)?;
+    put_operation_kinds(&mut out, layout, done)?;
     put_counts(&mut out, layout, run.counts)?;
     put_field(&mut out, layout, b"stale-hits", u128::from(run.stale))?;
-    put_order(&mut out, layout, verdict)?;
-    put_values(&mut out, layout, values)?;
+    put_order_verdict(&mut out, layout, verdict)?;
+    put_word_values(&mut out, layout, values)?;
     Ok(out)
 }

@@ -36,14 +36,19 @@ pub fn lack_text(
 {
     let mut out = Vec::new(alloc);
     put_opening(&mut out, layout, b"check")?;
-    put_lacking(&mut out, layout, place, core)?;
+    put_lacking_record(&mut out, layout, place, core)?;
     put_closing(&mut out, layout)?;
     Ok(out)
 }
 
 // That a core lacks a record.
 #[tactic(auto, unfolding(crate::specs::Verdicts::lacking_text))]
-fn put_lacking(out: &mut Vec<u8>, layout: Layout, place: u64, core: u64) -> Result<(), AllocError>
+fn put_lacking_record(
+    out: &mut Vec<u8>,
+    layout: Layout,
+    place: u64,
+    core: u64,
+) -> Result<(), AllocError>
     ensures { OnOk result (out.new.items ≡ out.old.items ++ lacking_text layout place core) }
 {
     match layout {
@@ -89,8 +94,8 @@ fn put_verdict(
     ensures { OnOk result (out.new.items ≡ out.old.items ++ verdict_text layout label.now verdict) }
 {
     match layout {
-        Layout::Lines => put_line(out, verdict),
-        Layout::Json => put_members(out, label, verdict),
+        Layout::Lines => put_verdict_line(out, verdict),
+        Layout::Json => put_verdict_members(out, label, verdict),
     }
 }
 
@@ -119,17 +124,17 @@ fn wrong_number(verdict: Verdict) -> Option<u64>
     }
 }
 
-fn put_line(out: &mut Vec<u8>, verdict: Verdict) -> Result<(), AllocError>
+fn put_verdict_line(out: &mut Vec<u8>, verdict: Verdict) -> Result<(), AllocError>
     ensures { OnOk result (out.new.items ≡ out.old.items ++ verdict_line verdict) }
 {
     out.extend_from_slice(verdict_name(verdict))?;
-    put_behind(out, wrong_number(verdict))?;
+    put_spaced_number(out, wrong_number(verdict))?;
     out.push(b'\n')?;
     Ok(())
 }
 
 // A number behind a space, if there is one.
-fn put_behind(out: &mut Vec<u8>, number: Option<u64>) -> Result<(), AllocError>
+fn put_spaced_number(out: &mut Vec<u8>, number: Option<u64>) -> Result<(), AllocError>
     ensures { OnOk result (out.new.items ≡ out.old.items ++ spaced_value number) }
 {
     let mut digits = Buffer::new();
@@ -140,15 +145,15 @@ fn put_behind(out: &mut Vec<u8>, number: Option<u64>) -> Result<(), AllocError>
     out.extend_from_slice(digits.format(number).as_bytes())
 }
 
-fn put_members(out: &mut Vec<u8>, label: &[u8], verdict: Verdict) -> Result<(), AllocError>
+fn put_verdict_members(out: &mut Vec<u8>, label: &[u8], verdict: Verdict) -> Result<(), AllocError>
     ensures { OnOk result (out.new.items ≡ out.old.items ++ verdict_members label.now verdict) }
 {
     put_word(out, Layout::Json, label, verdict_name(verdict))?;
-    put_number(out, wrong_number(verdict))
+    put_number_member(out, wrong_number(verdict))
 }
 
 // The member of a number, if there is one.
-fn put_number(out: &mut Vec<u8>, number: Option<u64>) -> Result<(), AllocError>
+fn put_number_member(out: &mut Vec<u8>, number: Option<u64>) -> Result<(), AllocError>
     ensures { OnOk result (out.new.items ≡ out.old.items ++ number_member number) }
 {
     match number {
@@ -158,7 +163,7 @@ fn put_number(out: &mut Vec<u8>, number: Option<u64>) -> Result<(), AllocError>
 }
 
 /// A verdict in the report on a run.
-pub(crate) fn put_order(
+pub(crate) fn put_order_verdict(
     out: &mut Vec<u8>,
     layout: Layout,
     verdict: Verdict,

@@ -1,7 +1,7 @@
 use Rattle.std.proofs.Common.{◌≡◌, ◌++◌, drop, codes, []}
 use Rattle.report_lines.specs.Layouts.{either, parted}
 use Rattle.report_lines.specs.Lines.{value_text}
-use Rattle.trace_texts.proofs.reports.put_values.Given as goal
+use Rattle.trace_texts.proofs.reports.put_word_values.Given as goal
 
 -- those so far and those that are left are all
 abbrev pub invariant-loop-at : goal.invariant-loop-at

@@ -1,7 +1,7 @@
 use Rattle.std.proofs.Common.{◌≡◌, ◌++◌, drop, codes, []}
 use Rattle.report_lines.specs.Layouts.{either, parted}
 use Rattle.trace_texts.specs.CountLines.{row_text}
-use Rattle.trace_texts.proofs.count_lines.put_row_list.Given as goal
+use Rattle.trace_texts.proofs.count_lines.put_count_rows.Given as goal
 
 -- those so far and those that are left are all
 abbrev pub invariant-loop-row : goal.invariant-loop-row

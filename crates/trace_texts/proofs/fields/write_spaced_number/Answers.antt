@@ -1,7 +1,7 @@
 use Rattle.std.proofs.Common.{◌≡◌, ◌+◌, ◌-◌, ◌<◌, length, ap, ◌∙◌, arith, drop, ◌∷◌}
 use Rattle.std.proofs.lemmas.List.{drop-set}
 use Rattle.trace_texts.proofs.Numerals.{short-decimal}
-use Rattle.trace_texts.proofs.fields.write_next.Goals as goal
+use Rattle.trace_texts.proofs.fields.write_spaced_number.Goals as goal
 
 pub write_digits-at-requires : goal.write_digits-at-requires
 write_digits-at-requires c =

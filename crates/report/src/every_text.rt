@@ -9,10 +9,10 @@ ghost use Rattle.report.specs.EveryText.{order_behind, order_text, times, turn_t
 use itoa::Buffer;
 use litmus_reader::Test;
 use report_lines::{
-    Layout, put_closing, put_either, put_field, put_list_closing, put_list_opening, put_opening,
-    put_parting, put_word,
+    Layout, put_by_layout, put_item_separator, put_labelled_number, put_labelled_word,
+    put_list_closing, put_list_opening, put_report_closing, put_report_opening,
 };
-use report_text::{put_values, quantifier_text};
+use report_text::{put_named_values, quantifier_text};
 use sequential_ends::Ends;
 use std::alloc::{AllocError, Global};
 
@@ -21,9 +21,9 @@ fn put_head(out: &mut Vec<u8>, layout: Layout, test: &Test, every: &Ends) -> Res
     ensures { OnOk result (out.new.items ≡
         out.old.items ++ head_text layout (test_of test.now) every.now) }
 {
-    put_word(out, layout, b"test", test.name())?;
-    put_field(out, layout, b"threads", test.threads() as u128)?;
-    put_field(out, layout, b"states", u128::from(every.states()))?;
+    put_labelled_word(out, layout, b"test", test.name())?;
+    put_labelled_number(out, layout, b"threads", test.threads() as u128)?;
+    put_labelled_number(out, layout, b"states", u128::from(every.states()))?;
     put_list_opening(out, layout, b"ends", every.len())
 }
 
@@ -62,20 +62,20 @@ fn put_turn(out: &mut Vec<u8>, layout: Layout, thread: u8, number: usize) -> Res
     ensures { OnOk result (out.new.items ≡ out.old.items ++ turn_text layout thread number) }
 {
     let mut digits = Buffer::new();
-    put_either(out, layout, b" P", b"\"P")?;
+    put_by_layout(out, layout, b" P", b"\"P")?;
     out.extend_from_slice(digits.format(thread).as_bytes())?;
     out.push(b':')?;
     out.extend_from_slice(digits.format(number).as_bytes())?;
-    put_either(out, layout, b"", b"\"")
+    put_by_layout(out, layout, b"", b"\"")
 }
 
 /// An order.
 fn put_order(out: &mut Vec<u8>, layout: Layout, order: &[u8]) -> Result<(), AllocError>
     ensures { OnOk result (out.new.items ≡ out.old.items ++ order_text layout order.now) }
 {
-    put_either(out, layout, b"  ", b",\"order\":[")?;
+    put_by_layout(out, layout, b"  ", b",\"order\":[")?;
     for at in 0..order.len() {
-        put_parting(out, layout, at == 0)?;
+        put_item_separator(out, layout, at == 0)?;
         put_turn(out, layout, order[at], times(order[at], &order[..at]) + 1)?;
     }
     put_list_closing(out, layout)
@@ -124,10 +124,10 @@ fn put_end(
 {
     let held = test.values_hold(values);
     out.extend_from_slice(mark(layout, held))?;
-    put_values(out, layout, test, values)?;
-    put_either(out, layout, b"", b"}")?;
+    put_named_values(out, layout, test, values)?;
+    put_by_layout(out, layout, b"", b"}")?;
     put_order_behind(out, layout, orders, order)?;
-    put_either(out, layout, b"\n", b"}")?;
+    put_by_layout(out, layout, b"\n", b"}")?;
     Ok(held)
 }
 
@@ -148,7 +148,7 @@ fn put_ends(
     let mut held = 0;
     let mut number = 0;
     while let Some((values, order)) = every.get(number) {
-        put_parting(out, layout, number == 0)?;
+        put_item_separator(out, layout, number == 0)?;
         let is_held = put_end(out, layout, orders, test, values, order)?;
         held += usize::from(is_held);
         number += 1;
@@ -179,8 +179,8 @@ fn put_condition(
     ensures { OnOk result (out.new.items ≡
         out.old.items ++ condition_text layout (test_of test.now) held) }
 {
-    put_word(out, layout, b"condition", quantifier_text(test.condition()))?;
-    put_field(out, layout, b"held", held as u128)
+    put_labelled_word(out, layout, b"condition", quantifier_text(test.condition()))?;
+    put_labelled_number(out, layout, b"held", held as u128)
 }
 
 /// A space and a word.
@@ -207,7 +207,7 @@ fn put_observation_line(
     put_next(out, test.name())?;
     put_next(out, often(held, ends))?;
     put_next(out, digits.format(held).as_bytes())?;
-    put_field(out, Layout::Lines, b"", (ends - held) as u128)?;
+    put_labelled_number(out, Layout::Lines, b"", (ends - held) as u128)?;
     Ok(())
 }
 
@@ -226,7 +226,7 @@ fn put_observation(
 {
     match layout {
         Layout::Lines => put_observation_line(out, test, held, ends),
-        Layout::Json => put_word(out, layout, b"observation", often(held, ends)),
+        Layout::Json => put_labelled_word(out, layout, b"observation", often(held, ends)),
     }
 }
 
@@ -245,12 +245,12 @@ pub(crate) fn every_text(
 {
     let ends = every.len();
     let mut out = Vec::new(alloc);
-    put_opening(&mut out, layout, b"ends")?;
+    put_report_opening(&mut out, layout, b"ends")?;
     put_head(&mut out, layout, test, every)?;
     let held = put_ends(&mut out, layout, orders, test, every)?;
     put_list_closing(&mut out, layout)?;
     put_condition(&mut out, layout, test, held)?;
     put_observation(&mut out, layout, test, held, ends)?;
-    put_closing(&mut out, layout)?;
+    put_report_closing(&mut out, layout)?;
     Ok(out)
 }

@@ -21,7 +21,7 @@ use machine_theorem::laws::every_history_is_legal;
 use mailboxes::Run;
 use physiological_order::{Memory, stale_hits};
 use programs::End;
-use report_lines::{Layout, put_closing};
+use report_lines::{Layout, put_report_closing};
 use schedules::{Policy, Watcher, run_watched};
 use shared_jobs::Free;
 use std::alloc::{AllocError, Global};
@@ -179,7 +179,7 @@ fn whole_report<M: Finished + Drop>(
 {
     let mut text = bare_report(alloc, layout, trace, ran)?;
     put_counter(&mut text, layout, counter)?;
-    put_closing(&mut text, layout)?;
+    put_report_closing(&mut text, layout)?;
     Ok(text)
 }
 

@@ -17,7 +17,7 @@ use crate::texts::refusal;
 use byte_streams::{Sink, Source};
 use interleaving_core::Config;
 use physiological_order::Record;
-use report_lines::{Layout, put_closing};
+use report_lines::{Layout, put_report_closing};
 use run_options::StreamOptions;
 use run_results::RunError;
 use std::alloc::{AllocError, Global};
@@ -134,7 +134,7 @@ fn ended_text(alloc: Global, layout: Layout, run: &StreamedRun) -> Result<Vec<u8
     let values = run.values()?;
     let cores = run.met().max(1);
     let mut text = told_trace_text(alloc, layout, cores, &end, run.kinds(), &values)?;
-    put_closing(&mut text, layout)?;
+    put_report_closing(&mut text, layout)?;
     Ok(text)
 }
 

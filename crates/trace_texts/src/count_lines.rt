@@ -11,7 +11,9 @@ ghost use Rattle.trace_texts.specs.CountLines.{totals_text};
 
 use event_counts::{CoreCounts, EventCounts, KindCounts, PartCounts};
 use itoa::Buffer;
-use report_lines::{Layout, put_either, put_field, put_list_closing, put_parting};
+use report_lines::{
+    Layout, put_by_layout, put_item_separator, put_labelled_number, put_list_closing,
+};
 use std::alloc::AllocError;
 
 // A name and a number, behind what opens the name.
@@ -26,7 +28,7 @@ fn put_named_count(
 {
     let mut digits = Buffer::new();
     out.extend_from_slice(name)?;
-    put_either(out, layout, b" ", b"\":")?;
+    put_by_layout(out, layout, b" ", b"\":")?;
     out.extend_from_slice(digits.format(number).as_bytes())
 }
 
@@ -40,7 +42,7 @@ fn put_next_count(
 ) -> Result<(), AllocError>
     ensures { OnOk result (out.new.items ≡ out.old.items ++ next_named layout name.now number) }
 {
-    put_either(out, layout, b" ", b",\"")?;
+    put_by_layout(out, layout, b" ", b",\"")?;
     put_named_count(out, layout, name, number)
 }
 
@@ -192,7 +194,7 @@ fn put_core_counts(
     put_hits_and_misses(out, layout, counts)?;
     put_copy_counts(out, layout, counts)?;
     put_sent_messages(out, layout, &counts.part.sent)?;
-    put_either(out, layout, b"\n", b"}")
+    put_by_layout(out, layout, b"\n", b"}")
 }
 
 // A bank.
@@ -210,7 +212,7 @@ fn put_bank_counts(
     put_next_count(out, layout, b"held", counts.held)?;
     put_next_count(out, layout, b"dropped", counts.dropped)?;
     put_sent_messages(out, layout, &counts.sent)?;
-    put_either(out, layout, b"\n", b"}")
+    put_by_layout(out, layout, b"\n", b"}")
 }
 
 // The events, and the deliveries that were held or dropped.
@@ -221,11 +223,11 @@ fn put_event_totals(
 ) -> Result<(), AllocError>
     ensures { OnOk result (out.new.items ≡ out.old.items ++ totals_text layout counts.now) }
 {
-    put_either(out, layout, b"", b"\"")?;
+    put_by_layout(out, layout, b"", b"\"")?;
     put_named_count(out, layout, b"events", counts.events())?;
-    put_either(out, layout, b"\n", b"")?;
-    put_field(out, layout, b"held", u128::from(counts.held()))?;
-    put_field(out, layout, b"dropped", u128::from(counts.dropped()))
+    put_by_layout(out, layout, b"\n", b"")?;
+    put_labelled_number(out, layout, b"held", u128::from(counts.held()))?;
+    put_labelled_number(out, layout, b"dropped", u128::from(counts.dropped()))
 }
 
 fn put_counts_of_cores(
@@ -235,9 +237,9 @@ fn put_counts_of_cores(
 ) -> Result<(), AllocError>
     ensures { OnOk result (out.new.items ≡ out.old.items ++ cores_text layout cores.now) }
 {
-    put_either(out, layout, b"", b",\"cores\":[")?;
+    put_by_layout(out, layout, b"", b",\"cores\":[")?;
     for core in 0..cores.len() {
-        put_parting(out, layout, core == 0)?;
+        put_item_separator(out, layout, core == 0)?;
         put_core_counts(out, layout, core, &cores[core])?;
     }
     put_list_closing(out, layout)
@@ -250,9 +252,9 @@ fn put_counts_of_banks(
 ) -> Result<(), AllocError>
     ensures { OnOk result (out.new.items ≡ out.old.items ++ banks_text layout banks.now) }
 {
-    put_either(out, layout, b"", b",\"banks\":[")?;
+    put_by_layout(out, layout, b"", b",\"banks\":[")?;
     for bank in 0..banks.len() {
-        put_parting(out, layout, bank == 0)?;
+        put_item_separator(out, layout, bank == 0)?;
         put_bank_counts(out, layout, bank, &banks[bank])?;
     }
     put_list_closing(out, layout)
@@ -281,7 +283,7 @@ fn operations_at_row(every: u64, row: usize) -> u128
 fn put_row_opening(out: &mut Vec<u8>, layout: Layout) -> Result<(), AllocError>
     ensures { OnOk result (out.new.items ≡ out.old.items ++ row_opening layout) }
 {
-    put_either(out, layout, b"row ", b"{\"completed\":")
+    put_by_layout(out, layout, b"row ", b"{\"completed\":")
 }
 
 // Before the counts of a row: how many operations had completed.
@@ -296,7 +298,7 @@ fn put_operations_at_row(
     let mut digits = Buffer::new();
     put_row_opening(out, layout)?;
     out.extend_from_slice(digits.format(completed).as_bytes())?;
-    put_either(out, layout, b"\n", b",")
+    put_by_layout(out, layout, b"\n", b",")
 }
 
 // A row: how many operations had completed, and what was counted by then.
@@ -314,7 +316,7 @@ fn put_count_row(
 {
     put_operations_at_row(out, layout, operations_at_row(every, row))?;
     put_all_counts(out, layout, counts)?;
-    put_either(out, layout, b"", b"}")
+    put_by_layout(out, layout, b"", b"}")
 }
 
 // The rows, one each `every` operations.
@@ -328,9 +330,9 @@ fn put_count_rows(
     ensures { OnOk result (out.new.items ≡
         out.old.items ++ rows_text layout (Some every) rows.now) }
 {
-    put_either(out, layout, b"", b",\"rows\":[")?;
+    put_by_layout(out, layout, b"", b",\"rows\":[")?;
     for row in 0..rows.len() {
-        put_parting(out, layout, row == 0)?;
+        put_item_separator(out, layout, row == 0)?;
         put_count_row(out, layout, every, row, &rows[row])?;
     }
     put_list_closing(out, layout)
@@ -357,7 +359,7 @@ fn put_rows_if_asked(
 fn put_end_counts_opening(out: &mut Vec<u8>, layout: Layout) -> Result<(), AllocError>
     ensures { OnOk result (out.new.items ≡ out.old.items ++ end_opening layout) }
 {
-    put_either(out, layout, b"", b",\"counts\":{")
+    put_by_layout(out, layout, b"", b",\"counts\":{")
 }
 
 // The counts at the end.
@@ -367,7 +369,7 @@ fn put_end_counts(out: &mut Vec<u8>, layout: Layout, counts: &EventCounts) -> Re
 {
     put_end_counts_opening(out, layout)?;
     put_all_counts(out, layout, counts)?;
-    put_either(out, layout, b"", b"}")
+    put_by_layout(out, layout, b"", b"}")
 }
 
 /// What a run did, in numbers, behind its report: if there is a row each `every` operations, each row with the counts

@@ -12,7 +12,7 @@ returns c =
     let test = test_of c.args.test.now in
     let every = c.args.every.now in
     let held = c.in_ok-held.ensures.held in
-    let opened = c.in_ok-put_opening.ensures
+    let opened = c.in_ok-put_report_opening.ensures
     ∙ ap (λ (t : List ℕ). t ++ opening layout (codes "ends")) c.new-out.ensures.items in
     let head = c.in_ok-put_head.ensures ∙ ap (λ (t : List ℕ). t ++ head_text layout test every) opened in
     let ends = c.in_ok-held.ensures.ends
@@ -22,4 +22,4 @@ returns c =
     ∙ ap₂ (λ (t : List ℕ) (n : ℕ). t ++ condition_text layout test n) listed held in
     let observation = c.in_ok-put_observation.ensures
     ∙ ap₂ (λ (t said : List ℕ). t ++ said) condition (ap₂ (observation_text layout test) held c.len-ends.ensures) in
-    c.in_ok-put_closing.ensures ∙ ap (λ (t : List ℕ). t ++ closing layout) observation
+    c.in_ok-put_report_closing.ensures ∙ ap (λ (t : List ℕ). t ++ closing layout) observation

@@ -36,7 +36,7 @@ loop-values-preserved c =
     let within = slice_get_within ends c.loop-values.number _ (sym c.in-Some.ensures) in
     record {
       ends = parted_next c.args.layout (λ at. end_text c.args.layout c.args.orders test) ends c.loop-values.number
-          _ _ _ _ _ (sym c.in-Some.ensures) c.loop-values.invariant.ends c.in_ok-put_parting.ensures
+          _ _ _ _ _ (sym c.in-Some.ensures) c.loop-values.invariant.ends c.in_ok-put_item_separator.ensures
           c.in_ok-is_held.ensures.text;
       held = held_next test (values_in c.args.every.now) c.loop-values.number _ c.loop-values.held _ _
           (slice_get-map (λ (end : List ℕ × List ℕ). end.0) ends c.loop-values.number

@@ -16,4 +16,4 @@ returns c =
     in
     let held = word_behind front told (decimal c.args.held) times c.in_ok-put_next-3.ensures
     (c.as_bytes.ensures.value ∙ c.format.ensures.text) in
-    behind front (told ++ (32 ∷ decimal c.args.held)) _ held c.in_ok-put_field.ensures
+    behind front (told ++ (32 ∷ decimal c.args.held)) _ held c.in_ok-put_labelled_number.ensures

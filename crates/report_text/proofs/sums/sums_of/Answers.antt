@@ -10,7 +10,7 @@ loop-run-init c = refl
 
 pub loop-run-preserved : goal.loop-run-preserved
 loop-run-preserved c =
-    c.plus-sums.ensures ∙ ap (λ (s : Sums). sums_after s c.run-item.result) c.loop-run.invariant
+    c.sums_with_run-sums.ensures ∙ ap (λ (s : Sums). sums_after s c.run-item.result) c.loop-run.invariant
     ∙ sums_next _ c.run-item.result
     ∙ ap sums_of (sym (take_next c.args.runs.now c.loop-run.run-index c.run-item.result
     c.loop-run-test.true c.run-item.is))

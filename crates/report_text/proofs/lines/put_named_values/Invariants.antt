@@ -1,7 +1,7 @@
 use Rattle.std.proofs.Common.{◌≡◌, ◌++◌, length}
 use Rattle.litmus_reader.specs.TestViews.{test_of}
 use Rattle.report_text.specs.Lines.{named_values, values_text}
-use Rattle.report_text.proofs.lines.put_values.Given as goal
+use Rattle.report_text.proofs.lines.put_named_values.Given as goal
 
 -- the text so far and that of what is left are all of it
 abbrev pub invariant-loop-name : goal.invariant-loop-name

@@ -1,6 +1,6 @@
 use Rattle.std.proofs.Common.{◌∙◌, sym, ap}
 use Rattle.report_text.proofs.OneMore.{count_is, or_zero}
-use Rattle.report_text.proofs.states.count_so_far.Goals as goal
+use Rattle.report_text.proofs.states.count_of_end_state.Goals as goal
 
 pub returns-in-Some : goal.returns-in-Some
 returns-in-Some c =

@@ -5,7 +5,7 @@ use Rattle.litmus_reader.specs.TestViews.{test_of}
 use Rattle.report_lines.proofs.Lemmas.{parted_done, parted_next}
 use Rattle.report_text.specs.Lines.{state_text}
 use Rattle.report_text.specs.States.{NamedValues, state_entries}
-use Rattle.report_text.proofs.text.put_state_list.Goals as goal
+use Rattle.report_text.proofs.text.put_end_state_list.Goals as goal
 
 abbrev entry : Bor NamedValues × ℕ → ℕ × NamedValues
 entry e = (e.1, (e.0).now)
@@ -20,7 +20,7 @@ loop-values-preserved c =
       states = parted_next c.args.layout (λ at. state_text c.args.layout (test_of c.args.test.now))
           (state_entries entries) c.loop-values.index _ _ _ _ _
           (slice_get-map entry entries c.loop-values.index ∙ ap (option_map entry) (sym c.in-Some.ensures.entry))
-          c.loop-values.invariant.states c.in_ok-put_parting.ensures c.in_ok-put_state.ensures;
+          c.loop-values.invariant.states c.in_ok-put_item_separator.ensures c.in_ok-put_end_state.ensures;
       within = search rules;
     }
 

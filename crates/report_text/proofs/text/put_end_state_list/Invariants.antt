@@ -4,7 +4,7 @@ use Rattle.report_lines.specs.Layouts.{parted}
 use Rattle.report_text.specs.Lines.{state_text}
 use Rattle.report_text.specs.States.{state_entries}
 use Rattle.report_text.specs.Text.{state_list}
-use Rattle.report_text.proofs.text.put_state_list.Given as goal
+use Rattle.report_text.proofs.text.put_end_state_list.Given as goal
 
 -- the states so far and those that are left are all
 abbrev pub invariant-loop-values : goal.invariant-loop-values

@@ -13,7 +13,7 @@ ghost use Rattle.report.specs.StreamParts.{text_if, text_unless};
 ghost use Rattle.report.specs.Streams.{IsStreamFault, stream_config};
 
 use crate::outputs::{layout_of, write_text};
-use crate::texts::refusal;
+use crate::texts::trace_refusal;
 use byte_streams::{Sink, Source};
 use interleaving_core::Config;
 use physiological_order::Record;
@@ -51,7 +51,7 @@ fn ahead_refusal(error: AheadError) -> RunError
     ensures { result ≡ ahead_refusal error }
 {
     match error {
-        AheadError::Text(error) => refusal(error),
+        AheadError::Text(error) => trace_refusal(error),
         AheadError::NoQueue(line) => RunError::Trace(TraceError {
             line,
             kind: Kind::BadCore,
@@ -81,7 +81,10 @@ pub(crate) fn make_piece<S: Source>(run: &mut StreamedRun, source: &mut S) -> Re
 }
 
 /// Reads the rest of the text, once the run is over.
-pub(crate) fn read_rest<S: Source>(run: &mut StreamedRun, source: &mut S) -> Result<(), RunError>
+pub(crate) fn read_rest_of_trace<S: Source>(
+    run: &mut StreamedRun,
+    source: &mut S,
+) -> Result<(), RunError>
     ensures ended { OnOk result ((options : StreamOptions) (known : Option (List ℕ)) →
         IsRunning options known run.old (S.remaining source.old) → IsOver run.old →
         HasRun options known run.new (S.remaining source.new)) }
@@ -99,7 +102,7 @@ pub(crate) fn read_rest<S: Source>(run: &mut StreamedRun, source: &mut S) -> Res
 }
 
 /// Writes the text of records, if they are asked for.
-pub(crate) fn write_records<K: Sink>(
+pub(crate) fn write_records_if_asked<K: Sink>(
     alloc: Global,
     sink: &mut K,
     asked: bool,
@@ -122,7 +125,11 @@ pub(crate) fn write_records<K: Sink>(
 }
 
 // The report on a run that has ended.
-fn ended_text(alloc: Global, layout: Layout, run: &StreamedRun) -> Result<Vec<u8>, AllocError>
+fn text_of_ended_run(
+    alloc: Global,
+    layout: Layout,
+    run: &StreamedRun,
+) -> Result<Vec<u8>, AllocError>
     ensures { IfOk result (λ text. text.items ≡ ended_text layout run.now) }
 {
     let end = TraceEnd {
@@ -155,7 +162,7 @@ pub(crate) fn write_end_report<K: Sink>(
     if options.records {
         return Ok(());
     }
-    let Ok(text) = ended_text(alloc, layout_of(options.json), run) else {
+    let Ok(text) = text_of_ended_run(alloc, layout_of(options.json), run) else {
         return Err(RunError::NoMemory);
     };
     write_text(sink, &text)

@@ -3,13 +3,13 @@ use Rattle.report.proofs.progress.progress_line.Goals as goal
 
 pub returns : goal.returns
 returns c = simp (
-  c.put_amount-6.ensures.text,
-  c.put_amount-5.ensures.text,
-  c.put_amount-4.ensures.text,
-  c.put_amount-3.ensures.text,
-  c.put_amount-2.ensures.text,
-  c.put_amount.ensures.text,
-  c.put.ensures,
+  c.put_progress_amount-6.ensures.text,
+  c.put_progress_amount-5.ensures.text,
+  c.put_progress_amount-4.ensures.text,
+  c.put_progress_amount-3.ensures.text,
+  c.put_progress_amount-2.ensures.text,
+  c.put_progress_amount.ensures.text,
+  c.put_progress_bytes.ensures,
   c.new-line.ensures,
   c.from.ensures,
   c.stale.ensures,

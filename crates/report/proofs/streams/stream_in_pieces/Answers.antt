@@ -143,7 +143,8 @@ returns-in-Err-write_end_report-clause-stopped g c =
     (begun laws options known c.requires.good c.pieces.run (g.S.Source.remaining c.pieces.source) old now
     before.running before.written)
     (λ part. reported_in_part laws options known c.requires.good last
-    (g.S.Source.remaining c.read_rest_of_trace.new.source) (rest.ended options known before.running (before.over c.pieces-test.false)) old now new
+    (g.S.Source.remaining c.read_rest_of_trace.new.source)
+    (rest.ended options known before.running (before.over c.pieces-test.false)) old now new
     (subst (HasWritten options.records old now) (ap (λ m. m.records) (sym rest.stays)) before.written) part)
     c.in-Err-write_end_report.ensures.failed
 
@@ -165,7 +166,8 @@ returns-clause-told g c =
     subst (λ b. IsReported (IsToldReport options known b first last failed fails) old new)
     (sym (c.is_all_done.ensures ∙ ap is_all_done c.end.ensures))
     (told laws options known c.requires.good c.read_rest_of_trace.new.run
-    (g.S.Source.remaining c.read_rest_of_trace.new.source) (rest.ended options known before.running (before.over c.pieces-test.false)) old now new
+    (g.S.Source.remaining c.read_rest_of_trace.new.source)
+    (rest.ended options known before.running (before.over c.pieces-test.false)) old now new
     (subst (HasWritten options.records old now) (ap (λ m. m.records) (sym rest.stays)) before.written) first last failed
     fails (subst (λ m. IsProgress options known m.records first last failed fails) (sym rest.stays)
     (progress_of options known c.pieces.run.machine.records c.pieces.tells first last failed fails before.telling))

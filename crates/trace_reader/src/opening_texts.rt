@@ -91,7 +91,7 @@ impl FromLines for Opened {
     }
 }
 
-fn read_whole<S: Source>(alloc: Global, source: &mut S) -> Result<Memory, TraceError>
+fn read_opening_text<S: Source>(alloc: Global, source: &mut S) -> Result<Memory, TraceError>
     ensures told { IfOk result (λ memory. IfSome (S.remaining source.old)
         (λ bytes. (told : List (ℕ × ℕ)) × (opening_read bytes ≡ Ok told) × AreOpened told memory)) }
     ensures end { OnOk result (IfSome (S.remaining source.old)
@@ -134,5 +134,5 @@ pub fn read_opening<S: Source>(alloc: Global, source: &mut S) -> Result<Memory, 
     ensures end { OnOk result (IfSome (S.remaining source.old)
         (λ known. AtEnd (S.remaining source.new))) }
 {
-    read_whole(alloc, source)
+    read_opening_text(alloc, source)
 }

@@ -10,7 +10,7 @@ ghost use Rattle.trace_reader.specs.Filling.{AreNeeded, AreTooFew, HasTaken, Has
 ghost use Rattle.trace_reader.specs.Steps.{lane};
 ghost use Rattle.trace_reader.specs.Streams.{coming, steps_told, where_known, OnlyFault, Yields};
 
-use crate::queues::{StepQueue, add_word};
+use crate::queues::{StepQueue, add_word_of_step};
 use crate::step_streams::StepStream;
 use byte_streams::Source;
 use physiological_order::{Memory, Op};
@@ -117,7 +117,7 @@ impl ReadAhead {
         if keeps {
             self.queues[core as usize].push(step, self.names, &mut self.words)?;
         } else {
-            add_word(&step, self.names, &mut self.words)?;
+            add_word_of_step(&step, self.names, &mut self.words)?;
         }
         self.met = self.met.max(core + 1);
         Ok(())

@@ -9,7 +9,7 @@ ghost use Rattle.trace_reader.specs.declared.limits.TheConstants.{MOST_NUMBERED}
 use crate::blocks::Block;
 use crate::limits::MOST_NUMBERED;
 use crate::next_lines::next_line;
-use crate::trace_texts::form_and_step;
+use crate::trace_texts::read_form_and_step;
 use byte_streams::Source;
 use physiological_order::Op;
 use trace_lines::{Form, Step, TraceError};
@@ -71,7 +71,7 @@ impl StepStream {
         let Some(length) = next_line(&mut self.block, source, self.number, MOST_NUMBERED)? else {
             return Ok(false);
         };
-        match form_and_step(self.form, self.block.front(length)) {
+        match read_form_and_step(self.form, self.block.front(length)) {
             Err(kind) => Err(TraceError {
                 line: self.number + 1,
                 kind,

@@ -14,7 +14,7 @@ returns-clause-ended g c = λ taken going over.
       read.0,
       subst (λ (s : StreamState). Yields (coming s.ahead.stream (g.S.Source.remaining c.args.source.now))
           (coming c.skip.new.self.stream (g.S.Source.remaining c.skip.new.source)) read.0) c.self.view_is read.1,
-      rw c.end_with-self-inside.ensures
+      rw c.end_of_streamed_run-self-inside.ensures
           (ended_behind taken read.0 _ (subst (IsGoing taken) here going)
           (subst (λ (s : StreamState). s.left ≡ 0) here over) c.if-self.false c.self.invariant.1 c.skip.new.self read.2
           c.in_ok-has_more.has_more read.3 _),

@@ -244,7 +244,7 @@ impl StreamedRun {
         self.done = done;
         self.end = end;
         self.left = turns_left_after_piece(self.left, turns, end, !self.at_end);
-        let Ok(()) = self.summary.add(&self.done) else {
+        let Ok(()) = self.summary.count_records(&self.done) else {
             return Err(AheadError::NoMemory);
         };
         Ok(self.left > 0)

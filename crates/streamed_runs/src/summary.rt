@@ -73,7 +73,7 @@ impl Summary {
     }
 
     // One record more.
-    fn count(&mut self, visited: &Record) -> Result<(), AllocError>
+    fn count_record(&mut self, visited: &Record) -> Result<(), AllocError>
         ensures { OnOk result (self.new ≡ counted self.old visited.now) }
     {
         let is_stale = check_stale_hit(&mut self.latest, visited)?;
@@ -83,11 +83,11 @@ impl Summary {
     }
 
     /// Of these records, too, which come behind. If an allocation fails, it is of the first ones of them.
-    pub(crate) fn add(&mut self, records: &[Record]) -> Result<(), AllocError>
+    pub(crate) fn count_records(&mut self, records: &[Record]) -> Result<(), AllocError>
         ensures { OnOk result (self.new ≡ all_counted self.old records.now) }
     {
         for visited in records {
-            self.count(visited)?;
+            self.count_record(visited)?;
         }
         Ok(())
     }

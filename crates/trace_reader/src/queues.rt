@@ -91,7 +91,7 @@ impl StepQueue {
         };
         self.blocks.make_room()?;
         add_word_of_step(&step, names, words)?;
-        self.blocks.put(step);
+        self.blocks.push_step(step);
         self.left = left;
         Ok(())
     }
@@ -103,12 +103,12 @@ impl Program for StepQueue {
     ghost acts = { record { next = first_step; done = behind_first } };
 
     fn next(&self) -> Option<Step> {
-        self.blocks.first()
+        self.blocks.first_step()
     }
 
     fn done(&mut self, _received: Option<u64>) {
         if self.left > 0 {
-            self.blocks.take_first();
+            self.blocks.take_first_step();
             self.left -= 1;
         }
     }

@@ -83,7 +83,7 @@ returns-clause-went g c = λ taken going.
           c.make_piece-end.new.queues)
           c.make_piece-end.result.0 c.make_piece-end.result.1.items
           (put_back c.make_piece-end.ensures queues c.queues-queues.ensures.value c.make_piece-end.auto.queues)
-          c.add.new.self (c.in-Ok.ensures ∙ ap (all_counted c.self.inside.summary) c.deref.ensures.value)),
+          c.count_records.new.self (c.in-Ok.ensures ∙ ap (all_counted c.self.inside.summary) c.deref.ensures.value)),
     )
 
 pub returns-clause-end : goal.returns-clause-end

@@ -1,7 +1,7 @@
 use Rattle.std.proofs.Common.{◌≡◌, ◌≤◌, ◌<◌, ◌-◌, ◌⊎◌, []}
 use Rattle.trace_reader.specs.declared.limits.TheConstants.{MOST_NUMBERED}
 use Rattle.trace_reader.specs.Streams.{coming, Yields}
-use Rattle.trace_reader.proofs.step_streams.StepStream.hold_next.Given as goal
+use Rattle.trace_reader.proofs.step_streams.StepStream.hold_next_step.Given as goal
 
 -- what is to come stays, and a line was taken unless what is held stays
 abbrev pub invariant-lines : goal.invariant-lines

@@ -5,7 +5,7 @@ use Rattle.trace_reader.specs.Filling.{AheadState, HasTaken}
 use Rattle.trace_reader.specs.Reading.{numbered}
 use Rattle.trace_reader.specs.Streams.{coming, lines_taken, Yields}
 use Rattle.trace_reader.proofs.QueuedSteps.{taken-as}
-use Rattle.trace_reader.proofs.read_ahead.ReadAhead.take_held.Goals as goal
+use Rattle.trace_reader.proofs.read_ahead.ReadAhead.take_held_step.Goals as goal
 
 pub returns-in-Ok-clause-one : goal.returns-in-Ok-clause-one
 returns-in-Ok-clause-one c = λ bytes.
@@ -15,7 +15,7 @@ returns-in-Ok-clause-one c = λ bytes.
     let one : ℕ × (ℕ × Step) = (line, (s.core, s.step)) in
     let same = ap (λ (m : AheadState). m.stream) c.self-2.view_is ∙ c.queue_step.ensures.stream in
     let is : gone.result ≡ Some (s.core, s.step) = gone.ensures.held.0 ∙ ap (λ (t : StepStream). t.held) same
-    ∙ sym (ap (λ (m : AheadState). m.stream.held) c.self.view_is) ∙ sym c.held.ensures.held ∙ s.is in (
+    ∙ sym (ap (λ (m : AheadState). m.stream.held) c.self.view_is) ∙ sym c.held_step.ensures.held ∙ s.is in (
       one,
       subst (λ (told : Option (ℕ × Step)). Yields (coming c.args.self.now.stream bytes) (coming gone.new.self bytes)
           (numbered line told)) is

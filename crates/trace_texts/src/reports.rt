@@ -176,7 +176,8 @@ pub fn trace_text(
 }
 
 /// What `trace_text` answers of records that are legal, without a check of them, and without what closes an object:
-/// what the run did, in numbers, may stand in front of that (`put_event_counts`, and `put_report_closing` of report_lines).
+/// what the run did, in numbers, may stand in front of that (`put_event_counts`, and `put_report_closing` of
+/// report_lines).
 pub fn legal_trace_text(
     alloc: Global,
     layout: Layout,

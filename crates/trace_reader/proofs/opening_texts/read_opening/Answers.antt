@@ -9,7 +9,8 @@ use Rattle.trace_reader.proofs.opening_texts.read_opening.Goals as goal
 
 pub returns-clause-found : goal.returns-clause-found
 returns-clause-found g c =
-    text-found opening_said TellOpening OpeningFieldsCause opening-meant empty AreOpened _ _ c.read_opening_text.ensures.told
+    text-found opening_said TellOpening OpeningFieldsCause opening-meant empty AreOpened _ _
+    c.read_opening_text.ensures.told
 
 pub returns-clause-only : goal.returns-clause-only
 returns-clause-only g c =

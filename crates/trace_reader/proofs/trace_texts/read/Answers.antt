@@ -13,8 +13,8 @@ returns-clause-found g c =
 
 pub returns-clause-only : goal.returns-clause-only
 returns-clause-only g c =
-    text-only said_at SaysFrom FieldsCause steps-meant None IsByCore bycore-unique _ _ _ _ c.read_trace_text.ensures.told
-    c.read_trace_text.ensures.fault
+    text-only said_at SaysFrom FieldsCause steps-meant None IsByCore bycore-unique _ _ _ _
+    c.read_trace_text.ensures.told c.read_trace_text.ensures.fault
 
 pub returns-clause-fault : goal.returns-clause-fault
 returns-clause-fault g c =

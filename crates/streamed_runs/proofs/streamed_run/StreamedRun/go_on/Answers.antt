@@ -31,7 +31,8 @@ returns-then-is_stream_done-clause-went g c = λ taken going.
     let done = c.is_stream_done.ensures.yes c.if-is_stream_done.true in (
       read.0,
       subst (λ (s : StreamState). Yields (coming s.ahead.stream (g.S.Source.remaining c.args.source.now))
-          (coming c.read_ahead_of_piece.new.ahead.stream (g.S.Source.remaining c.read_ahead_of_piece.new.source)) read.0) c.self.view_is read.1,
+          (coming c.read_ahead_of_piece.new.ahead.stream (g.S.Source.remaining c.read_ahead_of_piece.new.source))
+          read.0) c.self.view_is read.1,
       all_is_done laws taken read.0 _ (subst (IsGoing taken) (sym c.self.view_is) going)
           (omega (arith, c.if-self-eq0.false)) c.self.invariant.1 c.read_ahead_of_piece.new.ahead read.2
           (not c.in_ok-has_more.has_more) (λ is. (read.3 is, ap not (c.in_ok-has_more.ensures.over is))) (ap not done.0)
@@ -42,13 +43,15 @@ returns-then-is_stream_done-clause-went g c = λ taken going.
 pub invariant_of-self-in_default : goal.invariant_of-self-in_default
 invariant_of-self-in_default g c =
     stays_sound c.make_piece-end.ensures c.read_ahead_of_piece.new.ahead.queues c.queues-queues.ensures.value
-    c.make_piece-end.auto.queues c.self.invariant.0 (c.read_ahead_of_piece.ensures.filled.2.queued.0 ∙ c.self.invariant.1)
+    c.make_piece-end.auto.queues c.self.invariant.0
+    (c.read_ahead_of_piece.ensures.filled.2.queued.0 ∙ c.self.invariant.1)
     c.self.invariant.2
 
 pub invariant_of-self-2 : goal.invariant_of-self-2
 invariant_of-self-2 g c =
     stays_sound c.make_piece-end.ensures c.read_ahead_of_piece.new.ahead.queues c.queues-queues.ensures.value
-    c.make_piece-end.auto.queues c.self.invariant.0 (c.read_ahead_of_piece.ensures.filled.2.queued.0 ∙ c.self.invariant.1)
+    c.make_piece-end.auto.queues c.self.invariant.0
+    (c.read_ahead_of_piece.ensures.filled.2.queued.0 ∙ c.self.invariant.1)
     c.self.invariant.2
 
 pub returns-clause-went : goal.returns-clause-went
@@ -64,11 +67,13 @@ returns-clause-went g c = λ taken going.
       used = by.used;
     } in
     let many = read.2.queued.0 ∙ c.self.invariant.1 in let queues = c.read_ahead_of_piece.new.ahead.queues in
-    let cores = some_core c.self.inside.system.config c.self.invariant.0 in let turns = c.turns_for_piece-turns.ensures in
+    let cores = some_core c.self.inside.system.config c.self.invariant.0 in
+    let turns = c.turns_for_piece-turns.ensures in
     let any : 0 < length queues = omega (arith, many, cores) in (
       read.0,
       subst (λ (s : StreamState). Yields (coming s.ahead.stream (g.S.Source.remaining c.args.source.now))
-          (coming c.read_ahead_of_piece.new.ahead.stream (g.S.Source.remaining c.read_ahead_of_piece.new.source)) read.0) c.self.view_is read.1,
+          (coming c.read_ahead_of_piece.new.ahead.stream (g.S.Source.remaining c.read_ahead_of_piece.new.source))
+          read.0) c.self.view_is read.1,
       rw c.turns_left_after_piece-self-inside.ensures
           (is_further laws taken read.0 _ (subst (IsGoing taken) (sym c.self.view_is) going)
           (omega (arith, c.if-self-eq0.false)) c.self.invariant.1 c.read_ahead_of_piece.new.ahead read.2
@@ -95,7 +100,8 @@ returns-clause-end g c = λ ends before.
 pub returns-clause-further : goal.returns-clause-further
 returns-clause-further g c = λ is.
     let read = c.read_ahead_of_piece.ensures.filled in let many = read.2.queued.0 ∙ c.self.invariant.1 in
-    let cores = some_core c.self.inside.system.config c.self.invariant.0 in let turns = c.turns_for_piece-turns.ensures in
+    let cores = some_core c.self.inside.system.config c.self.invariant.0 in
+    let turns = c.turns_for_piece-turns.ensures in
     let queues = c.read_ahead_of_piece.new.ahead.queues in let any : 0 < length queues = omega (arith, many, cores) in
     let some = turns.some (omega (arith, c.if-self-eq0.false))
     (λ is. some_in_each queues c.shortest.result any c.shortest.ensures.one

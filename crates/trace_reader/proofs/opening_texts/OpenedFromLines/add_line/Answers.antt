@@ -35,4 +35,5 @@ returns-in-Ok-Some-clause-fault c =
     let one : ℕ × ℕ = (c.in-Ok-Some.addr, c.in-Ok-Some.value) in
     let line : opening_line_at fields ≡ Ok (Some one) = cc (c.in-Ok-Some.ensures.told, c.in-Ok-Some.field-0-is) in
     IfErr-weaker c.open_word_of_line.result _ _ (λ e fault told state h.
-    word-fault state fields c.args.number one e c.requires.some line (rw h.2 at fault)) c.open_word_of_line.ensures.fault
+    word-fault state fields c.args.number one e c.requires.some line (rw h.2 at fault))
+    c.open_word_of_line.ensures.fault

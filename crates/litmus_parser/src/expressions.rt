@@ -65,12 +65,12 @@ pub fn expression<'a>(
         (reads (chain connective (part_of connective (address_of items.now) threads depth)
         (locations.old, atoms)) cursor.entry.line cursor.entry.pieces) }
 {
-    let (first, mut atoms, mut at) = part(
+    let (first, mut atoms, mut at) = read_expression_part(
         alloc, items, threads, locations, atoms, depth, connective, cursor,
     )?;
     let mut left = first;
     for _ in 0..MOST_ATOMS {
-        let (more, joined, count, after) = next_part(
+        let (more, joined, count, after) = read_next_part(
             alloc, items, threads, locations, atoms, depth, connective, left, at,
         )?;
         left = joined;
@@ -85,7 +85,7 @@ pub fn expression<'a>(
 
 /// A further part after the connective's sign, if there is one.
 #[cycle(expression)]
-fn next_part<'a>(
+fn read_next_part<'a>(
     alloc: Global,
     items: &[Item],
     threads: u8,
@@ -105,7 +105,7 @@ fn next_part<'a>(
     if !more {
         return Ok((false, left, atoms, after));
     }
-    let (right, atoms, after) = part(
+    let (right, atoms, after) = read_expression_part(
         alloc, items, threads, locations, atoms, depth, connective, after,
     )?;
     let joined = join_expressions(alloc, connective, left, right)?;
@@ -114,7 +114,7 @@ fn next_part<'a>(
 
 /// A part that the connective joins.
 #[cycle(expression)]
-fn part<'a>(
+fn read_expression_part<'a>(
     alloc: Global,
     items: &[Item],
     threads: u8,

@@ -74,7 +74,7 @@ pub(crate) fn make_piece<S: Source>(run: &mut StreamedRun, source: &mut S) -> Re
         IsUnread (IsStreamFault options.cores known) (Unit {0})
         (S.failures source.old) (S.failures source.new) e) }
 {
-    match run.go_on(source) {
+    match run.run_next_piece(source) {
         Ok(goes_on) => Ok(goes_on),
         Err(error) => Err(ahead_refusal(error)),
     }
@@ -95,7 +95,7 @@ pub(crate) fn read_rest_of_trace<S: Source>(
         IsUnread (IsStreamFault options.cores known) (Unit {0})
         (S.failures source.old) (S.failures source.new) e) }
 {
-    match run.finish(source) {
+    match run.read_rest_of_text(source) {
         Ok(()) => Ok(()),
         Err(error) => Err(ahead_refusal(error)),
     }

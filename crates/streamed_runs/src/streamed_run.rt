@@ -188,12 +188,12 @@ impl StreamedRun {
     }
 
     /// Reads ahead, and makes as many turns as there are steps for, at most those that are left. The result is whether
-    /// the run goes on; if not, nothing but the rest of the text is left (`finish`), and another call does nothing. The
-    /// source is to be the one of all earlier calls.
+    /// the run goes on; if not, nothing but the rest of the text is left (`read_rest_of_text`), and another call does
+    /// nothing. The source is to be the one of all earlier calls.
     ///
     /// A fault of the text is an error as soon as it is read, and so is a step of a core that the machine hasn't. The
     /// run can't go on after an error.
-    pub fn go_on<S: Source>(&mut self, source: &mut S) -> Result<bool, AheadError>
+    pub fn run_next_piece<S: Source>(&mut self, source: &mut S) -> Result<bool, AheadError>
         ensures went { OnOk result ((taken : List (ℕ × (ℕ × Step))) → IsGoing taken self.old →
             (more : List (ℕ × (ℕ × Step)))
             × Yields (coming self.old.ahead.stream (S.remaining source.old))
@@ -251,7 +251,7 @@ impl StreamedRun {
     }
 
     /// Reads the rest of the text, once the run is over. The source is to be the one of all earlier calls.
-    pub fn finish<S: Source>(&mut self, source: &mut S) -> Result<(), AheadError>
+    pub fn read_rest_of_text<S: Source>(&mut self, source: &mut S) -> Result<(), AheadError>
         ensures ended { OnOk result ((taken : List (ℕ × (ℕ × Step))) → IsGoing taken self.old →
             IsOver self.old → (more : List (ℕ × (ℕ × Step)))
             × Yields (coming self.old.ahead.stream (S.remaining source.old))
@@ -280,7 +280,7 @@ impl StreamedRun {
         Ok(())
     }
 
-    /// The records of the operations that the last call of `go_on` completed, in order.
+    /// The records of the operations that the last call of `run_next_piece` completed, in order.
     pub fn done(&self) -> &[Record]
         ensures { result.now ≡ self.now.done }
     {

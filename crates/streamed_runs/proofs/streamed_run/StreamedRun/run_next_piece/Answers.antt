@@ -6,7 +6,7 @@ use Rattle.streamed_runs.specs.StreamStates.{IsAllRead, IsGoing, StreamState}
 use Rattle.streamed_runs.specs.Summaries.{all_counted}
 use Rattle.streamed_runs.proofs.GoingRuns.{Laws, all_is_done, is_further, stays_over, takes_turns}
 use Rattle.streamed_runs.proofs.MadePieces.{put_back, some_core, some_in_each, some_queue, stays_sound, turned}
-use Rattle.streamed_runs.proofs.streamed_run.StreamedRun.go_on.Goals as goal
+use Rattle.streamed_runs.proofs.streamed_run.StreamedRun.run_next_piece.Goals as goal
 
 pub returns-then-self-eq0-clause-went : goal.returns-then-self-eq0-clause-went
 returns-then-self-eq0-clause-went g c = λ taken going. (

@@ -3,7 +3,7 @@ use Rattle.trace_reader.specs.Streams.{coming, Yields}
 use Rattle.trace_reader.proofs.Lemmas.{yields-none}
 use Rattle.streamed_runs.specs.StreamStates.{IsGoing, StreamState}
 use Rattle.streamed_runs.proofs.EndedRuns.{ended_already, ended_behind}
-use Rattle.streamed_runs.proofs.streamed_run.StreamedRun.finish.Goals as goal
+use Rattle.streamed_runs.proofs.streamed_run.StreamedRun.read_rest_of_text.Goals as goal
 
 pub returns-then-self-clause-ended : goal.returns-then-self-clause-ended
 returns-then-self-clause-ended g c = λ taken going over. ([], yields-none _, ended_already taken _ going over)

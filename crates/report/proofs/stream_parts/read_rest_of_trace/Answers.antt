@@ -16,4 +16,5 @@ returns-in-Err-clause-refused g c = λ options known r.
     let new = g.S.Source.failures c.read_rest_of_text.new.source in
     subst (IsUnread (IsStreamFault options.cores known) (Unit {0}) old new) (sym c.ahead_refusal.ensures)
     (next_refused options known (g.S.Source.remaining c.args.source.now)
-    (g.S.Source.remaining c.read_rest_of_text.new.source) c.args.run.now c.read_rest_of_text.new.self.ahead.stream old new c.in-Err.error r c.in-Err.ensures.stops)
+    (g.S.Source.remaining c.read_rest_of_text.new.source) c.args.run.now c.read_rest_of_text.new.self.ahead.stream
+    old new c.in-Err.error r c.in-Err.ensures.stops)

@@ -69,7 +69,7 @@ pub fn read_title(line: &[u8]) -> Option<&[u8]>
 }
 
 /// A string between two `"` with no other `"`, and blanks after it.
-fn is_quoted(text: &[u8]) -> bool
+fn is_quoted_string(text: &[u8]) -> bool
     ensures { result ≡ is_quoted text.now }
 {
     let Some((&b'"', text)) = text.split_first() else {
@@ -83,7 +83,7 @@ fn is_quoted(text: &[u8]) -> bool
 }
 
 /// A letter followed by letters, digits and `_`, then blanks, then `=`.
-fn is_setting(text: &[u8]) -> bool
+fn is_key_value_line(text: &[u8]) -> bool
     ensures { result ≡ is_setting text.now }
 {
     if !matches!(text, [b'A'..=b'Z' | b'a'..=b'z', ..]) {
@@ -99,7 +99,7 @@ pub fn is_header_line(line: &[u8]) -> bool
     ensures { result ≡ is_header_line line.now }
 {
     let (_, text) = line.split_at(count_leading_blanks(line));
-    text.is_empty() || is_quoted(text) || is_setting(text)
+    text.is_empty() || is_quoted_string(text) || is_key_value_line(text)
 }
 
 /// Whether a line begins the initial block: its first byte after blanks is `{`.

@@ -16,7 +16,7 @@ pub enum Token<'a> {
     LineEnd,
 }
 
-fn is_letter(b: u8) -> bool
+fn is_word_byte(b: u8) -> bool
     ensures { result ≡ is_letter b }
 {
     matches!(b, b'0'..=b'9' | b'A'..=b'Z' | b'a'..=b'z' | b'_' | b'.' | b'~')
@@ -28,11 +28,11 @@ fn is_slash(b: u8) -> bool
     b == b'/' || b == b'\\'
 }
 
-fn count_leading_letters(bytes: &[u8]) -> usize
+fn count_leading_word_bytes(bytes: &[u8]) -> usize
     ensures count { result ≡ prefix_len is_letter bytes.now }
     ensures within { result ≤ length bytes.now }
 {
-    bytes.iter().take_while(|b| is_letter(**b)).count()
+    bytes.iter().take_while(|b| is_word_byte(**b)).count()
 }
 
 fn count_leading_slashes(bytes: &[u8]) -> usize
@@ -53,8 +53,8 @@ pub fn next_token(bytes: &[u8]) -> Option<(Token<'_>, &[u8])>
     if first == b'\n' {
         return Some((Token::LineEnd, after));
     }
-    let len = if is_letter(first) {
-        count_leading_letters(bytes)
+    let len = if is_word_byte(first) {
+        count_leading_word_bytes(bytes)
     } else if is_slash(first) {
         count_leading_slashes(bytes)
     } else {

@@ -52,7 +52,7 @@ fn progress_line(run: &StreamedRun) -> ProgressLine
     put_progress_amount(&mut line, counts.upgrades, b" upgrades, ");
     put_progress_amount(&mut line, counts.flushes, b" flushes, ");
     put_progress_amount(&mut line, counts.write_backs, b" write-backs, ");
-    put_progress_amount(&mut line, u128::from(run.stale()), b" stale hits\n");
+    put_progress_amount(&mut line, u128::from(run.stale_hits()), b" stale hits\n");
     line
 }
 

@@ -92,14 +92,14 @@ fn report_of_trace<R: Threads + Clock + Sync>(
     let Some(config) = config_of(&options.run.machine, trace.cores()) else {
         return Err(RunError::BadConfig);
     };
-    match run_and_report(rt, alloc, trace, config, options) {
+    match run_and_report_trace(rt, alloc, trace, config, options) {
         Ok(report) => Ok(report),
         Err(AllocError) => Err(RunError::NoMemory),
     }
 }
 
 // A run of the trace on this machine, as it is told.
-fn run_and_report<R: Threads + Clock + Sync>(
+fn run_and_report_trace<R: Threads + Clock + Sync>(
     rt: &R,
     alloc: Global,
     trace: &Trace,

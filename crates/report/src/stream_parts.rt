@@ -40,7 +40,7 @@ pub(crate) fn stream_config(options: &StreamOptions) -> Option<Config>
 }
 
 /// Whether the report is to have the words that the trace names.
-pub(crate) fn asks_words(options: &StreamOptions) -> bool
+pub(crate) fn are_words_asked(options: &StreamOptions) -> bool
     ensures { result ≡ (options.now.words && not options.now.records) }
 {
     options.words && !options.records
@@ -136,10 +136,10 @@ fn text_of_ended_run(
         issued: run.issued(),
         end: run.end(),
         counts: run.counts(),
-        stale: run.stale(),
+        stale: run.stale_hits(),
     };
     let values = run.values()?;
-    let cores = run.met().max(1);
+    let cores = run.cores_met().max(1);
     let mut text = told_trace_text(alloc, layout, cores, &end, run.kinds(), &values)?;
     put_report_closing(&mut text, layout)?;
     Ok(text)

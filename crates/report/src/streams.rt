@@ -13,7 +13,7 @@ ghost use Rattle.report.specs.Streams.{HasNoStream, IsBegun, IsStreamReport, IsS
 use crate::progress::write_progress_if_due;
 use crate::reports::is_all_done;
 use crate::stream_parts::{
-    asks_words, make_piece, read_rest_of_trace, stream_config, write_end_report,
+    are_words_asked, make_piece, read_rest_of_trace, stream_config, write_end_report,
     write_records_if_asked,
 };
 use byte_streams::{Sink, Source};
@@ -121,7 +121,7 @@ fn stream_on_machine<S: Source, K: Sink, E: Sink>(
         (K.contents sink.old) (K.contents sink.new) (S.failures source.old) (S.failures source.new)
         (K.failures sink.old) (K.failures sink.new)) }
 {
-    let (names, limit) = (asks_words(options), limit_of(&options.run));
+    let (names, limit) = (are_words_asked(options), limit_of(&options.run));
     let Ok(mut run) = StreamedRun::new(alloc, config, policy, limit, names) else {
         return Err(RunError::NoMemory);
     };

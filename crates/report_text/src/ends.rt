@@ -59,7 +59,7 @@ fn endings_with_run(test: &Test, endings: Endings, run: &RunEnd) -> Endings
 }
 
 /// How these runs ended.
-pub(crate) fn endings_of(test: &Test, runs: &[RunEnd]) -> Endings
+pub(crate) fn count_run_endings(test: &Test, runs: &[RunEnd]) -> Endings
     ensures { result ≡ endings_of (test_of test.now) runs.now }
 {
     let mut endings = Endings {

@@ -34,7 +34,7 @@ fn sums_with_run(sums: Sums, run: &RunEnd) -> Sums
 }
 
 /// The sums over these runs.
-pub(crate) fn sums_of(runs: &[RunEnd]) -> Sums
+pub(crate) fn sum_over_runs(runs: &[RunEnd]) -> Sums
     ensures { result ≡ sums_of runs.now }
 {
     let mut sums = Sums {

@@ -6,11 +6,11 @@ ghost use Rattle.report_text.specs.States.{state_entries};
 ghost use Rattle.report_text.specs.Text.{condition_text, ends_text, is_yes, litmus_text, state_list};
 ghost use Rattle.report_text.specs.Text.{states_text, sums_text};
 
-use crate::ends::{Endings, endings_of};
+use crate::ends::{Endings, count_run_endings};
 use crate::lines::{put_end_state, quantifier_text};
 use crate::run_end::RunEnd;
 use crate::states::count_end_states;
-use crate::sums::{Sums, sums_of};
+use crate::sums::{Sums, sum_over_runs};
 use indexmap::IndexMap;
 use litmus_reader::{Quantifier, Test};
 use report_lines::{
@@ -127,14 +127,14 @@ pub fn litmus_text(
 ) -> Result<Vec<u8>, AllocError>
     ensures { IfOk result (λ text. text.items ≡ litmus_text layout (test_of test.now) runs.now) }
 {
-    let endings = endings_of(test, runs);
+    let endings = count_run_endings(test, runs);
     let states = count_end_states(alloc, runs)?;
     let mut out = Vec::new(alloc);
     put_report_opening(&mut out, layout, b"litmus")?;
     put_run_endings(&mut out, layout, test, runs.len(), endings)?;
     put_end_states(&mut out, layout, test, &states)?;
     put_condition_verdict(&mut out, layout, test, endings)?;
-    put_sums_over_runs(&mut out, layout, sums_of(runs))?;
+    put_sums_over_runs(&mut out, layout, sum_over_runs(runs))?;
     put_report_closing(&mut out, layout)?;
     Ok(out)
 }

@@ -295,7 +295,7 @@ impl StreamedRun {
     }
 
     /// The greatest core of a step that was read, plus 1; 0 before the first one.
-    pub fn met(&self) -> u32
+    pub fn cores_met(&self) -> u32
         ensures { result ≡ self.now.ahead.met }
     {
         self.ahead.met()
@@ -309,7 +309,7 @@ impl StreamedRun {
     }
 
     /// How many of the records are of loads for which a write of the same word has a smaller number and a greater time.
-    pub fn stale(&self) -> u64
+    pub fn stale_hits(&self) -> u64
         ensures { result ≡ self.now.stale }
     {
         self.summary.stale as u64

@@ -51,9 +51,9 @@ impl Kinds {
     {
         Kinds {
             completed: records.len(),
-            loads: loads_among(records),
-            stores: stores_among(records),
-            swaps: swaps_among(records),
+            loads: count_loads(records),
+            stores: count_stores(records),
+            swaps: count_swaps(records),
         }
     }
 }
@@ -77,7 +77,7 @@ fn is_load(op: Op) -> bool
     matches!(op, Op::Load(_))
 }
 
-fn loads_among(records: &[Record]) -> usize
+fn count_loads(records: &[Record]) -> usize
     ensures { result ≡ loads_among records.now }
 {
     records.iter().filter(|record| is_load(record.op)).count()
@@ -89,7 +89,7 @@ fn is_store(op: Op) -> bool
     matches!(op, Op::Store(_, _))
 }
 
-fn stores_among(records: &[Record]) -> usize
+fn count_stores(records: &[Record]) -> usize
     ensures { result ≡ stores_among records.now }
 {
     records.iter().filter(|record| is_store(record.op)).count()
@@ -101,7 +101,7 @@ fn is_swap(op: Op) -> bool
     matches!(op, Op::Swap(_, _))
 }
 
-fn swaps_among(records: &[Record]) -> usize
+fn count_swaps(records: &[Record]) -> usize
     ensures { result ≡ swaps_among records.now }
 {
     records.iter().filter(|record| is_swap(record.op)).count()

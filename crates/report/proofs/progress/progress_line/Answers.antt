@@ -12,7 +12,7 @@ returns c = simp (
   c.put_progress_bytes.ensures,
   c.new-line.ensures,
   c.from.ensures,
-  c.stale.ensures,
+  c.stale_hits.ensures,
   c.counts-counts.ensures,
   c.kinds.ensures,
   append_assoc,

@@ -18,7 +18,7 @@ returns c =
     (c.in_ok-put_condition_verdict.ensures ∙ ap₂ (λ t endings. t ++ condition_text layout test endings)
     (c.in_ok-put_end_states.ensures ∙ ap₂ (λ t states. t ++ states_text layout test states)
     (c.in_ok-put_run_endings.ensures ∙ ap₂ (λ t endings. t ++ ends_text layout test runs endings) opened
-    c.endings_of-endings.ensures)
+    c.count_run_endings-endings.ensures)
     c.in_ok-states.ensures)
-    c.endings_of-endings.ensures)
-    c.sums_of.ensures)
+    c.count_run_endings-endings.ensures)
+    c.sum_over_runs.ensures)

@@ -3,7 +3,7 @@ use Rattle.report_text.specs.Sums.{sums_of, sums_after}
 use Rattle.report_text.specs.declared.sums.Sums.{Sums}
 use Rattle.report_text.proofs.AddedUp.{sums_next}
 use Rattle.report_text.proofs.FirstItems.{take_next}
-use Rattle.report_text.proofs.sums.sums_of.Goals as goal
+use Rattle.report_text.proofs.sums.sum_over_runs.Goals as goal
 
 pub loop-run-init : goal.loop-run-init
 loop-run-init c = refl

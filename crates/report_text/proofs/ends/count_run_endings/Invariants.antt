@@ -1,7 +1,7 @@
 use Rattle.std.proofs.Common.{◌≡◌, take}
 use Rattle.litmus_reader.specs.TestViews.{test_of}
 use Rattle.report_text.specs.Ends.{endings_of}
-use Rattle.report_text.proofs.ends.endings_of.Given as goal
+use Rattle.report_text.proofs.ends.count_run_endings.Given as goal
 
 -- the runs so far
 abbrev pub invariant-loop-run : goal.invariant-loop-run

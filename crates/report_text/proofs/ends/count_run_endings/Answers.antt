@@ -4,7 +4,7 @@ use Rattle.report_text.specs.Ends.{endings_of, with_run}
 use Rattle.report_text.specs.declared.ends.Endings.{Endings}
 use Rattle.report_text.proofs.EndedRuns.{are_few, endings_next}
 use Rattle.report_text.proofs.FirstItems.{take_next}
-use Rattle.report_text.proofs.ends.endings_of.Goals as goal
+use Rattle.report_text.proofs.ends.count_run_endings.Goals as goal
 
 pub loop-run-init : goal.loop-run-init
 loop-run-init c = refl

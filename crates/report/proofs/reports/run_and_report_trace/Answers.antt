@@ -1,4 +1,4 @@
-use Rattle.report.proofs.reports.run_and_report.Goals as goal
+use Rattle.report.proofs.reports.run_and_report_trace.Goals as goal
 
 pub returns-in-ByPolicy : goal.returns-in-ByPolicy
 returns-in-ByPolicy g c = c.report_by_policy.ensures

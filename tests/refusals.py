@@ -28,6 +28,7 @@ SB_ENDS = ("test SB\nthreads 2\nstates 13\nends 3\n  0:x7=0 1:x7=1\n  0:x7=1 1:x
            "condition exists\nheld 0\nobservation SB Never 0 3\n")
 TRACES = TOP / "examples" / "traces"
 NO_MEMORY = (1, "", "tardis: no memory\n")
+SWITCHES = {name: value for name, value in os.environ.items() if name.startswith("MUTANT")}  # of a changed program
 
 LOADS = 20000
 # One core loads one word, again and again: a hit each time but the first, at time 0.
@@ -72,7 +73,7 @@ class Tester:
     def run(self, words, lines=(), **refusals):
         """The program with these words, and with these lines on standard input."""
         reader, writer = os.pipe()
-        environment = {"LD_PRELOAD": self.shim, "REFUSE_TOLD": str(writer)}
+        environment = SWITCHES | {"LD_PRELOAD": self.shim, "REFUSE_TOLD": str(writer)}
         environment |= {f"REFUSE_{name.upper()}": str(value) for name, value in refusals.items()}
         ran = subprocess.run([self.program, *map(str, words)], env=environment, pass_fds=[writer], timeout=600,
                              input=text_of(lines).encode(), capture_output=True)

@@ -118,7 +118,7 @@ fn option_without_default<'a>(
 }
 
 /// An option with a value, and its default.
-fn option<'a>(
+fn option_with_default<'a>(
     alloc: Global,
     name: &'a str,
     default: &'a str,
@@ -131,14 +131,14 @@ fn option<'a>(
 }
 
 /// The words `round`, `seed` and `threads`.
-fn schedules<'a>() -> ValueParser<'a>
+fn schedule_parser<'a>() -> ValueParser<'a>
     ensures { NamesSchedules result }
 {
     ValueParser::from(SCHEDULES.as_slice())
 }
 
 /// An option without a value.
-fn flag<'a>(alloc: Global, name: &'a str, help: &'a str) -> Arg<'a>
+fn flag_argument<'a>(alloc: Global, name: &'a str, help: &'a str) -> Arg<'a>
     ensures { IsArg result (flag_rule name.entry.now) }
 {
     Arg::new(alloc, name)
@@ -148,7 +148,7 @@ fn flag<'a>(alloc: Global, name: &'a str, help: &'a str) -> Arg<'a>
 }
 
 /// An option whose value is the path of a file.
-fn path<'a>(alloc: Global, name: &'a str, help: &'a str) -> Arg<'a>
+fn path_option<'a>(alloc: Global, name: &'a str, help: &'a str) -> Arg<'a>
     ensures { IsArg result (path_rule name.entry.now) }
 {
     Arg::new(alloc, name)
@@ -159,14 +159,14 @@ fn path<'a>(alloc: Global, name: &'a str, help: &'a str) -> Arg<'a>
 }
 
 /// The path of a file, which the words must have.
-fn file<'a>(alloc: Global, name: &'a str, help: &'a str) -> Arg<'a>
+fn file_argument<'a>(alloc: Global, name: &'a str, help: &'a str) -> Arg<'a>
     ensures { IsArg result (file_rule name.entry.now) }
 {
     Arg::new(alloc, name).required(true).help(help)
 }
 
 /// A command with one more argument, if there is memory for both.
-fn with<'a>(
+fn with_argument<'a>(
     command: Result<Command<'a>, AllocError>,
     arg: Arg<'a>,
 ) -> Result<Command<'a>, AllocError>
@@ -178,7 +178,7 @@ fn with<'a>(
 }
 
 /// A command with one more option, with a number of 64 bits.
-fn with_number<'a>(
+fn with_number_option<'a>(
     command: Result<Command<'a>, AllocError>,
     alloc: Global,
     name: &'a str,
@@ -189,7 +189,10 @@ fn with_number<'a>(
         (number_rule name.entry.now default.entry.now any_number)) result }
 {
     let parser = value_parser!(u64);
-    with(command, option(alloc, name, default, parser, help))
+    with_argument(
+        command,
+        option_with_default(alloc, name, default, parser, help),
+    )
 }
 
 /// A command with the options that say in which order and how far a run goes.
@@ -200,15 +203,24 @@ fn with_run_options<'a>(
     ensures { (p : _) × NamesSchedules p ×
         Adds command.entry (λ app. with_rules app (run_rules p)) result }
 {
-    let names = schedules();
+    let names = schedule_parser();
     let limit = value_parser!(u64).range(1..4294967296);
     let workers = value_parser!(u64).range(1..17);
-    let one = with(command, option(alloc, "schedule", "round", names, SCHEDULE));
-    let two = with_number(one, alloc, "seed", "0", SEED);
-    let three = with(two, option(alloc, "limit", "100000", limit, LIMIT));
-    let four = with(three, option(alloc, "workers", "1", workers, WORKERS));
-    let five = with(four, flag(alloc, "fair", FAIR));
-    with(five, flag(alloc, "private-write", PRIVATE_WRITE))
+    let one = with_argument(
+        command,
+        option_with_default(alloc, "schedule", "round", names, SCHEDULE),
+    );
+    let two = with_number_option(one, alloc, "seed", "0", SEED);
+    let three = with_argument(
+        two,
+        option_with_default(alloc, "limit", "100000", limit, LIMIT),
+    );
+    let four = with_argument(
+        three,
+        option_with_default(alloc, "workers", "1", workers, WORKERS),
+    );
+    let five = with_argument(four, flag_argument(alloc, "fair", FAIR));
+    with_argument(five, flag_argument(alloc, "private-write", PRIVATE_WRITE))
 }
 
 /// A command with the options that say how the machine is built.
@@ -218,19 +230,19 @@ fn with_machine_options<'a>(
 ) -> Result<Command<'a>, AllocError>
     ensures { Adds command.entry (λ app. with_rules app machine_rules) result }
 {
-    let one = with_number(command, alloc, "lease", "10", LEASE);
-    let two = with_number(one, alloc, "time", "0", TIME);
-    let three = with_number(two, alloc, "banks", "1", BANKS);
-    let four = with_number(three, alloc, "sets", "64", SETS);
-    let five = with_number(four, alloc, "ways", "4", WAYS);
-    let six = with_number(five, alloc, "bank-sets", "256", BANK_SETS);
-    let seven = with_number(six, alloc, "bank-ways", "8", BANK_WAYS);
-    let eight = with_number(seven, alloc, "line-words", "1", LINE_WORDS);
-    with_number(eight, alloc, "messages", "4096", MESSAGES)
+    let one = with_number_option(command, alloc, "lease", "10", LEASE);
+    let two = with_number_option(one, alloc, "time", "0", TIME);
+    let three = with_number_option(two, alloc, "banks", "1", BANKS);
+    let four = with_number_option(three, alloc, "sets", "64", SETS);
+    let five = with_number_option(four, alloc, "ways", "4", WAYS);
+    let six = with_number_option(five, alloc, "bank-sets", "256", BANK_SETS);
+    let seven = with_number_option(six, alloc, "bank-ways", "8", BANK_WAYS);
+    let eight = with_number_option(seven, alloc, "line-words", "1", LINE_WORDS);
+    with_number_option(eight, alloc, "messages", "4096", MESSAGES)
 }
 
 /// A command with all the options of a run, and with a file.
-fn with_run<'a>(
+fn with_run_arguments<'a>(
     command: Result<Command<'a>, AllocError>,
     alloc: Global,
     help: &'a str,
@@ -239,11 +251,15 @@ fn with_run<'a>(
 {
     let ordered = with_run_options(command, alloc);
     let built = with_machine_options(ordered, alloc);
-    with(built, file(alloc, "FILE", help))
+    with_argument(built, file_argument(alloc, "FILE", help))
 }
 
 /// A command that takes nothing yet.
-fn empty<'a>(alloc: Global, name: &'a str, about: &'a str) -> Result<Command<'a>, AllocError>
+fn command_without_arguments<'a>(
+    alloc: Global,
+    name: &'a str,
+    about: &'a str,
+) -> Result<Command<'a>, AllocError>
     ensures { IfOk result (IsApp (new_app name.entry.now)) }
 {
     Ok(Command::new(alloc, name).about(about))
@@ -254,11 +270,11 @@ fn litmus_command<'a>(alloc: Global) -> Result<Command<'a>, AllocError>
     ensures { (p : _) × NamesSchedules p × IfOk result (IsApp (litmus_app p)) }
 {
     let about = "Runs a litmus test and reports its end states and the verdict on its condition";
-    let named = empty(alloc, "litmus", about);
+    let named = command_without_arguments(alloc, "litmus", about);
     let runs = value_parser!(u64).range(1..1000001);
-    let repeated = with(named, option(alloc, "runs", "1", runs, RUNS));
-    let written = with(repeated, flag(alloc, "json", JSON));
-    with_run(written, alloc, LITMUS_FILE)
+    let repeated = with_argument(named, option_with_default(alloc, "runs", "1", runs, RUNS));
+    let written = with_argument(repeated, flag_argument(alloc, "json", JSON));
+    with_run_arguments(written, alloc, LITMUS_FILE)
 }
 
 /// The command `ends`.
@@ -267,12 +283,15 @@ fn ends_command<'a>(alloc: Global) -> Result<Command<'a>, AllocError>
 {
     let about =
         "Lists every end of a litmus test on a sequential machine, and whether its condition holds there";
-    let named = empty(alloc, "ends", about);
+    let named = command_without_arguments(alloc, "ends", about);
     let states = value_parser!(u64).range(1..4294967296);
-    let bounded = with(named, option(alloc, "states", "4194304", states, STATES));
-    let ordered = with(bounded, flag(alloc, "orders", ORDERS));
-    let written = with(ordered, flag(alloc, "json", JSON));
-    with(written, file(alloc, "FILE", LITMUS_FILE))
+    let bounded = with_argument(
+        named,
+        option_with_default(alloc, "states", "4194304", states, STATES),
+    );
+    let ordered = with_argument(bounded, flag_argument(alloc, "orders", ORDERS));
+    let written = with_argument(ordered, flag_argument(alloc, "json", JSON));
+    with_argument(written, file_argument(alloc, "FILE", LITMUS_FILE))
 }
 
 /// A command with the options that say what of a trace's run is written.
@@ -283,10 +302,10 @@ fn with_count_options<'a>(
     ensures { Adds command.entry (λ app. with_rules app count_rules) result }
 {
     let every = value_parser!(u64).range(1..);
-    let one = with(command, flag(alloc, "records", RECORDS));
-    let two = with(one, flag(alloc, "counts", COUNTS));
-    let three = with(two, option_without_default(alloc, "every", every, EVERY));
-    with(three, flag(alloc, "json", TRACE_JSON))
+    let one = with_argument(command, flag_argument(alloc, "records", RECORDS));
+    let two = with_argument(one, flag_argument(alloc, "counts", COUNTS));
+    let three = with_argument(two, option_without_default(alloc, "every", every, EVERY));
+    with_argument(three, flag_argument(alloc, "json", TRACE_JSON))
 }
 
 /// A command with the options of a trace that is read as the run goes.
@@ -298,10 +317,10 @@ fn with_stream_options<'a>(
 {
     let cores = value_parser!(u64).range(1..65);
     let millions = value_parser!(u64).range(1..4294967296);
-    let one = with(command, flag(alloc, "stream", STREAM));
-    let two = with(one, option_without_default(alloc, "cores", cores, CORES));
-    let three = with(two, flag(alloc, "no-words", NO_WORDS));
-    with(
+    let one = with_argument(command, flag_argument(alloc, "stream", STREAM));
+    let two = with_argument(one, option_without_default(alloc, "cores", cores, CORES));
+    let three = with_argument(two, flag_argument(alloc, "no-words", NO_WORDS));
+    with_argument(
         three,
         option_without_default(alloc, "progress", millions, PROGRESS),
     )
@@ -312,10 +331,10 @@ fn trace_command<'a>(alloc: Global) -> Result<Command<'a>, AllocError>
     ensures { (p : _) × NamesSchedules p × IfOk result (IsApp (trace_app p)) }
 {
     let about = "Runs a trace and reports what came of it, or its records";
-    let named = empty(alloc, "trace", about);
+    let named = command_without_arguments(alloc, "trace", about);
     let counted = with_count_options(named, alloc);
     let streamed = with_stream_options(counted, alloc);
-    with_run(streamed, alloc, TRACE_FILE)
+    with_run_arguments(streamed, alloc, TRACE_FILE)
 }
 
 /// The command `check`.
@@ -323,12 +342,12 @@ fn check_command<'a>(alloc: Global) -> Result<Command<'a>, AllocError>
     ensures { IfOk result (IsApp check_app) }
 {
     let about = "Says whether records are a legal history of a trace";
-    let named = empty(alloc, "check", about);
-    let whole = with(named, flag(alloc, "complete", COMPLETE));
-    let opened = with(whole, path(alloc, "opening", OPENING));
-    let written = with(opened, flag(alloc, "json", JSON));
-    let traced = with(written, file(alloc, "TRACE", TRACE_FILE));
-    with(traced, file(alloc, "RECORDS", RECORDS_FILE))
+    let named = command_without_arguments(alloc, "check", about);
+    let whole = with_argument(named, flag_argument(alloc, "complete", COMPLETE));
+    let opened = with_argument(whole, path_option(alloc, "opening", OPENING));
+    let written = with_argument(opened, flag_argument(alloc, "json", JSON));
+    let traced = with_argument(written, file_argument(alloc, "TRACE", TRACE_FILE));
+    with_argument(traced, file_argument(alloc, "RECORDS", RECORDS_FILE))
 }
 
 /// A program with one more command, if there is memory for both.
@@ -345,7 +364,7 @@ fn with_command<'a>(
 }
 
 /// The program without its commands, of which it needs one.
-fn program<'a>(alloc: Global) -> Result<Command<'a>, AllocError>
+fn program_without_commands<'a>(alloc: Global) -> Result<Command<'a>, AllocError>
     ensures { IfOk result (IsApp (wanting (new_app (codes "tardis")))) }
 {
     let about = "A simulator of the Tardis coherence protocol that checks what it simulates";
@@ -355,7 +374,7 @@ fn program<'a>(alloc: Global) -> Result<Command<'a>, AllocError>
 }
 
 /// The command line of the program.
-pub(crate) fn command<'a>(alloc: Global) -> Result<Command<'a>, AllocError>
+pub(crate) fn program_command<'a>(alloc: Global) -> Result<Command<'a>, AllocError>
     ensures app { IfOk result (λ c. (p : _) × NameSchedules p × (app_of c ≡ tardis_app p)) }
     ensures globals { IfOk result (λ c. (fields_of c).has_globals ≡ false) }
     ensures required { IfOk result (λ c. (fields_of c).subcommand_required ≡ true) }
@@ -364,7 +383,7 @@ pub(crate) fn command<'a>(alloc: Global) -> Result<Command<'a>, AllocError>
     let ends = ends_command(alloc);
     let trace = trace_command(alloc);
     let check = check_command(alloc);
-    let one = with_command(program(alloc), litmus);
+    let one = with_command(program_without_commands(alloc), litmus);
     let two = with_command(one, ends);
     let three = with_command(two, trace);
     with_command(three, check)

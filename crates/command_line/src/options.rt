@@ -30,7 +30,7 @@ pub(crate) struct Asked {
 }
 
 /// The number from least to most that an option's text writes, if it writes one.
-fn number_in(matches: &ArgMatches<'_>, name: &str, least: u64, most: u64) -> Option<u64>
+fn number_in_range(matches: &ArgMatches<'_>, name: &str, least: u64, most: u64) -> Option<u64>
     ensures { MayHaveNumber (rows_of (found_of matches.now)) name.now least most result }
 {
     let number = matches.get_one::<u64>(name)?;
@@ -41,35 +41,35 @@ fn number_in(matches: &ArgMatches<'_>, name: &str, least: u64, most: u64) -> Opt
 }
 
 /// The number from least to most that an option's text writes, or this one if it writes none.
-fn number(matches: &ArgMatches<'_>, name: &str, least: u64, most: u64, other: u64) -> u64
+fn number_or_default(matches: &ArgMatches<'_>, name: &str, least: u64, most: u64, other: u64) -> u64
     ensures { HasNumber (rows_of (found_of matches.now)) name.now least most other result }
 {
-    number_in(matches, name, least, most).unwrap_or(other)
+    number_in_range(matches, name, least, most).unwrap_or(other)
 }
 
 /// The number of 64 bits that an option has, or this one if it has none.
-fn any_number(matches: &ArgMatches<'_>, name: &str, other: u64) -> u64
+fn any_number_or_default(matches: &ArgMatches<'_>, name: &str, other: u64) -> u64
     ensures { HasAnyNumber (rows_of (found_of matches.now)) name.now other result }
 {
-    number(matches, name, 0, u64::MAX, other)
+    number_or_default(matches, name, 0, u64::MAX, other)
 }
 
 /// Whether a flag is there.
-fn flag(matches: &ArgMatches<'_>, name: &str) -> bool
+fn is_flag_set(matches: &ArgMatches<'_>, name: &str) -> bool
     ensures { IsFlag (rows_of (found_of matches.now)) name.now result }
 {
     matches.get_one::<bool>(name).unwrap_or(false)
 }
 
 /// The word that an argument has, as the path of a file; empty if it has none.
-pub(crate) fn word_of<'a>(matches: &ArgMatches<'a>, name: &str) -> &'a str
+pub(crate) fn argument_word<'a>(matches: &ArgMatches<'a>, name: &str) -> &'a str
     ensures { HasWord (rows_of (found_of matches.now)) name.now result.now }
 {
     matches.get_str(name).unwrap_or("")
 }
 
 /// The path that an option has, if the words have the option.
-pub(crate) fn path_of<'a>(matches: &ArgMatches<'a>, name: &str) -> Option<&'a str>
+pub(crate) fn argument_path<'a>(matches: &ArgMatches<'a>, name: &str) -> Option<&'a str>
     ensures { HasPath (rows_of (found_of matches.now)) name.now
         (option_map (λ path. path.now) result) }
 {
@@ -77,10 +77,10 @@ pub(crate) fn path_of<'a>(matches: &ArgMatches<'a>, name: &str) -> Option<&'a st
 }
 
 /// The schedule that an option's word names.
-fn schedule(matches: &ArgMatches<'_>, name: &str) -> Schedule
+fn named_schedule(matches: &ArgMatches<'_>, name: &str) -> Schedule
     ensures { IsSchedule (rows_of (found_of matches.now)) name.now result }
 {
-    match word_of(matches, name) {
+    match argument_word(matches, name) {
         "seed" => Schedule::Seed,
         "threads" => Schedule::Threads,
         _ => Schedule::Round,
@@ -102,44 +102,47 @@ fn fair_schedule(fair: bool, schedule: Schedule) -> Option<Schedule>
 }
 
 /// The order of events that the words ask for; none if it can't be fair and they ask for that.
-fn order(matches: &ArgMatches<'_>) -> Option<Schedule>
+fn asked_schedule(matches: &ArgMatches<'_>) -> Option<Schedule>
     ensures { IsOrder (rows_of (found_of matches.now)) result }
 {
-    fair_schedule(flag(matches, "fair"), schedule(matches, "schedule"))
+    fair_schedule(
+        is_flag_set(matches, "fair"),
+        named_schedule(matches, "schedule"),
+    )
 }
 
 /// The machine that the words ask for.
-fn machine_of(matches: &ArgMatches<'_>) -> MachineOptions
+fn asked_machine_options(matches: &ArgMatches<'_>) -> MachineOptions
     ensures { TellsMachine (rows_of (found_of matches.now)) result }
 {
     let default = MachineOptions::DEFAULT;
     MachineOptions {
-        lease: any_number(matches, "lease", default.lease),
-        time: any_number(matches, "time", default.time),
-        banks: any_number(matches, "banks", default.banks),
-        sets: any_number(matches, "sets", default.sets),
-        ways: any_number(matches, "ways", default.ways),
-        bank_sets: any_number(matches, "bank-sets", default.bank_sets),
-        bank_ways: any_number(matches, "bank-ways", default.bank_ways),
-        line_words: any_number(matches, "line-words", default.line_words),
-        messages: any_number(matches, "messages", default.messages),
-        private_write: flag(matches, "private-write"),
+        lease: any_number_or_default(matches, "lease", default.lease),
+        time: any_number_or_default(matches, "time", default.time),
+        banks: any_number_or_default(matches, "banks", default.banks),
+        sets: any_number_or_default(matches, "sets", default.sets),
+        ways: any_number_or_default(matches, "ways", default.ways),
+        bank_sets: any_number_or_default(matches, "bank-sets", default.bank_sets),
+        bank_ways: any_number_or_default(matches, "bank-ways", default.bank_ways),
+        line_words: any_number_or_default(matches, "line-words", default.line_words),
+        messages: any_number_or_default(matches, "messages", default.messages),
+        private_write: is_flag_set(matches, "private-write"),
     }
 }
 
 /// The run that the words ask for; none if it can't be fair and they ask for that.
-fn run_of(matches: &ArgMatches<'_>) -> Option<RunOptions>
+fn asked_run_options(matches: &ArgMatches<'_>) -> Option<RunOptions>
     ensures run { IfSome result (TellsRun (rows_of (found_of matches.now))) }
     ensures unfair { result ≡ None → IsOrder (rows_of (found_of matches.now)) None }
 {
     let default = RunOptions::DEFAULT;
-    let schedule = order(matches)?;
+    let schedule = asked_schedule(matches)?;
     Some(RunOptions {
         schedule,
-        seed: any_number(matches, "seed", default.seed),
-        workers: number(matches, "workers", 1, 16, default.workers),
-        limit: number(matches, "limit", 1, 4294967295, default.limit),
-        machine: machine_of(matches),
+        seed: any_number_or_default(matches, "seed", default.seed),
+        workers: number_or_default(matches, "workers", 1, 16, default.workers),
+        limit: number_or_default(matches, "limit", 1, 4294967295, default.limit),
+        machine: asked_machine_options(matches),
     })
 }
 
@@ -148,10 +151,10 @@ pub(crate) fn litmus_options(matches: &ArgMatches<'_>) -> Option<LitmusOptions>
     ensures litmus { IfSome result (TellsLitmus (rows_of (found_of matches.now))) }
     ensures unfair { result ≡ None → IsOrder (rows_of (found_of matches.now)) None }
 {
-    let run = run_of(matches)?;
+    let run = asked_run_options(matches)?;
     Some(LitmusOptions {
-        runs: number(matches, "runs", 1, 1000000, LitmusOptions::DEFAULT.runs),
-        json: flag(matches, "json"),
+        runs: number_or_default(matches, "runs", 1, 1000000, LitmusOptions::DEFAULT.runs),
+        json: is_flag_set(matches, "json"),
         run,
     })
 }
@@ -162,9 +165,9 @@ pub(crate) fn ends_options(matches: &ArgMatches<'_>) -> EndsOptions
 {
     let default = EndsOptions::DEFAULT.most_states;
     EndsOptions {
-        most_states: number(matches, "states", 1, 4294967295, default),
-        orders: flag(matches, "orders"),
-        json: flag(matches, "json"),
+        most_states: number_or_default(matches, "states", 1, 4294967295, default),
+        orders: is_flag_set(matches, "orders"),
+        json: is_flag_set(matches, "json"),
     }
 }
 
@@ -173,28 +176,28 @@ fn trace_options(matches: &ArgMatches<'_>) -> Option<TraceOptions>
     ensures trace { IfSome result (TellsTrace (rows_of (found_of matches.now))) }
     ensures unfair { result ≡ None → IsOrder (rows_of (found_of matches.now)) None }
 {
-    let run = run_of(matches)?;
+    let run = asked_run_options(matches)?;
     Some(TraceOptions {
-        records: flag(matches, "records"),
-        counts: flag(matches, "counts"),
-        every: number_in(matches, "every", 1, u64::MAX),
-        json: flag(matches, "json"),
+        records: is_flag_set(matches, "records"),
+        counts: is_flag_set(matches, "counts"),
+        every: number_in_range(matches, "every", 1, u64::MAX),
+        json: is_flag_set(matches, "json"),
         run,
     })
 }
 
 /// What the words ask of the run of a trace; none as for any run.
-pub(crate) fn asked_of(matches: &ArgMatches<'_>) -> Option<Asked>
+pub(crate) fn asked_trace_run(matches: &ArgMatches<'_>) -> Option<Asked>
     ensures asked { IfSome result (TellsAsked (rows_of (found_of matches.now))) }
     ensures unfair { result ≡ None → IsOrder (rows_of (found_of matches.now)) None }
 {
     let trace = trace_options(matches)?;
     Some(Asked {
         trace,
-        stream: flag(matches, "stream"),
-        cores: number_in(matches, "cores", 1, 64),
-        no_words: flag(matches, "no-words"),
-        progress: number_in(matches, "progress", 1, 4294967295),
+        stream: is_flag_set(matches, "stream"),
+        cores: number_in_range(matches, "cores", 1, 64),
+        no_words: is_flag_set(matches, "no-words"),
+        progress: number_in_range(matches, "progress", 1, 4294967295),
     })
 }
 
@@ -217,8 +220,8 @@ pub(crate) fn check_options(matches: &ArgMatches<'_>) -> CheckOptions
     ensures { TellsCheck (rows_of (found_of matches.now)) result }
 {
     CheckOptions {
-        complete: flag(matches, "complete"),
-        json: flag(matches, "json"),
+        complete: is_flag_set(matches, "complete"),
+        json: is_flag_set(matches, "json"),
     }
 }
 

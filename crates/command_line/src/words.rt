@@ -5,10 +5,11 @@ ghost use Rattle.clap.specs.Words.{Row, Text, found_of, kind_of, rows_of};
 ghost use Rattle.command_line.specs.Job.{AreTaken, AskForConflict, GivesJob, IsAskedBy, IsFaulty};
 ghost use Rattle.command_line.specs.Job.{IsRefusedFor, conflict_of, conflict_text, words_number};
 
-use crate::app::command;
+use crate::app::program_command;
 use crate::options::{
-    Asked, asked_of, check_options, cores_in_vain, counts_in_vain, ends_options, json_in_vain,
-    litmus_options, path_of, progress_in_vain, rows_in_vain, stream_in_vain, stream_of, word_of,
+    Asked, argument_path, argument_word, asked_trace_run, check_options, cores_in_vain,
+    counts_in_vain, ends_options, json_in_vain, litmus_options, progress_in_vain, rows_in_vain,
+    stream_in_vain, stream_of,
 };
 use clap::error::ErrorKind;
 use clap::{ArgMatches, Error};
@@ -57,7 +58,7 @@ impl WordsError {
 }
 
 /// The error with the text that clap shows.
-fn refused(alloc: Global, error: &Error) -> WordsError
+fn error_of_clap_refusal(alloc: Global, error: &Error) -> WordsError
     ensures { (words : List Text) → IsFaulty words (kind_of error.now) → IsRefusedFor words result }
 {
     match format!(in alloc; "{error}") {
@@ -117,7 +118,7 @@ fn conflict_text(why: Conflict) -> &'static str
 }
 
 /// The refusal of it.
-fn refused_for(alloc: Global, why: Conflict) -> WordsError
+fn error_of_conflict(alloc: Global, why: Conflict) -> WordsError
     ensures { (words : List Text) (found : Text × List Row) → AreTaken words found →
         AskForConflict found.0 found.1 why → IsRefusedFor words result }
 {
@@ -158,11 +159,11 @@ fn trace_job<'a>(matches: &ArgMatches<'a>) -> Result<Job<'a>, Conflict>
     ensures job { IfOk result (GivesJob (codes "trace") (rows_of (found_of matches.now))) }
     ensures conflict { IfErr result (AskForConflict (codes "trace") (rows_of (found_of matches.now))) }
 {
-    let asked = asked_of(matches).ok_or(Conflict::Fair)?;
+    let asked = asked_trace_run(matches).ok_or(Conflict::Fair)?;
     if let Some(why) = conflict_of(&asked) {
         return Err(why);
     }
-    let file = word_of(matches, "FILE");
+    let file = argument_word(matches, "FILE");
     if asked.stream {
         return Ok(Job::Stream(stream_of(&asked), file));
     }
@@ -170,7 +171,7 @@ fn trace_job<'a>(matches: &ArgMatches<'a>) -> Result<Job<'a>, Conflict>
 }
 
 /// The job of a command that the program has, or what it asks for that can't be had together.
-fn job_of<'a>(name: &str, matches: &ArgMatches<'a>) -> Result<Job<'a>, Conflict>
+fn job_of_command<'a>(name: &str, matches: &ArgMatches<'a>) -> Result<Job<'a>, Conflict>
     requires { (name.now ≡ codes "litmus") ⊎ (name.now ≡ codes "ends") ⊎ (name.now ≡ codes "trace")
         ⊎ (name.now ≡ codes "check") }
     ensures job { IfOk result (GivesJob name.now (rows_of (found_of matches.now))) }
@@ -179,15 +180,15 @@ fn job_of<'a>(name: &str, matches: &ArgMatches<'a>) -> Result<Job<'a>, Conflict>
     match name {
         "litmus" => {
             let options = litmus_options(matches).ok_or(Conflict::Fair)?;
-            Ok(Job::Litmus(options, word_of(matches, "FILE")))
+            Ok(Job::Litmus(options, argument_word(matches, "FILE")))
         }
-        "ends" => Ok(Job::Ends(ends_options(matches), word_of(matches, "FILE"))),
+        "ends" => Ok(Job::Ends(ends_options(matches), argument_word(matches, "FILE"))),
         "trace" => trace_job(matches),
         _ => Ok(Job::Check(
             check_options(matches),
-            path_of(matches, "opening"),
-            word_of(matches, "TRACE"),
-            word_of(matches, "RECORDS"),
+            argument_path(matches, "opening"),
+            argument_word(matches, "TRACE"),
+            argument_word(matches, "RECORDS"),
         )),
     }
 }
@@ -197,19 +198,19 @@ pub fn read_words<'a>(alloc: Global, words: &'a [&'a str]) -> Result<Job<'a>, Wo
     ensures job { IfOk result (IsAskedBy (map (λ w. w.now) words.entry.now)) }
     ensures refused { IfErr result (IsRefusedFor (map (λ w. w.now) words.entry.now)) }
 {
-    let Ok(command) = command(alloc) else {
+    let Ok(command) = program_command(alloc) else {
         return Err(WordsError::NoMemory);
     };
     let matches = match command.try_get_matches_from(words) {
         Ok(matches) => matches,
         Err(error) if error.kind() == ErrorKind::OutOfMemory => return Err(WordsError::NoMemory),
-        Err(error) => return Err(refused(alloc, &error)),
+        Err(error) => return Err(error_of_clap_refusal(alloc, &error)),
     };
     let Some((name, inner)) = matches.subcommand() else {
         unreachable!()
     };
-    match job_of(name, inner) {
+    match job_of_command(name, inner) {
         Ok(job) => Ok(job),
-        Err(why) => Err(refused_for(alloc, why)),
+        Err(why) => Err(error_of_conflict(alloc, why)),
     }
 }

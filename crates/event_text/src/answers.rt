@@ -25,10 +25,10 @@ pub fn name_of_refusal(refusal: Refusal) -> &'static str {
 }
 
 fn put_access(kind: &str, byte: u64, value: Option<u64>, out: &mut Reply) {
-    out.word(kind);
-    out.address(byte);
+    out.put_word(kind);
+    out.put_address(byte);
     if let Some(value) = value {
-        out.number(value);
+        out.put_number(value);
     }
 }
 
@@ -45,58 +45,58 @@ pub fn put_op(op: &Op, out: &mut Reply) {
 /// Operations, joined by `; `, or `none`.
 pub fn put_ops(ops: &[Op], out: &mut Reply) {
     for op in ops {
-        out.next_part();
+        out.begin_part();
         put_op(op, out);
     }
-    out.or("none");
+    out.put_word_if_empty("none");
 }
 
 /// An open operation, and whether its request is out; or `none`.
-pub fn put_open(open: Option<(Op, bool)>, out: &mut Reply) {
+pub fn put_open_op(open: Option<(Op, bool)>, out: &mut Reply) {
     let Some((op, is_out)) = open else {
-        return out.word("none");
+        return out.put_word("none");
     };
     put_op(&op, out);
     if is_out {
-        out.word("requested");
+        out.put_word("requested");
     }
 }
 
 /// A record: core, place, operation, what was received, time and number.
 pub fn put_record(record: &Record, out: &mut Reply) {
-    out.number(u64::from(record.core));
-    out.number(u64::from(record.place));
+    out.put_number(u64::from(record.core));
+    out.put_number(u64::from(record.place));
     put_op(&record.op, out);
     if let Some(received) = record.received {
-        out.number(received);
+        out.put_number(received);
     }
-    out.number(record.ts);
-    out.number(record.number);
+    out.put_number(record.ts);
+    out.put_number(record.number);
 }
 
 /// The record at an index, or `none`.
 pub fn put_record_at(records: &[Record], at: u64, out: &mut Reply) {
     match records.get(usize::try_from(at).unwrap_or(usize::MAX)) {
         Some(record) => put_record(record, out),
-        None => out.word("none"),
+        None => out.put_word("none"),
     }
 }
 
 /// The numbers of records, in their order, or `none`.
-pub fn put_numbers(records: &[Record], out: &mut Reply) {
+pub fn put_record_numbers(records: &[Record], out: &mut Reply) {
     for record in records {
-        out.number(record.number);
+        out.put_number(record.number);
     }
-    out.or("none");
+    out.put_word_if_empty("none");
 }
 
 /// The verdict on records.
 pub fn put_verdict(verdict: &Verdict, out: &mut Reply) {
     match *verdict {
-        Verdict::Legal => out.word("legal"),
-        Verdict::BadNumber(number) => out.named("bad number", number),
-        Verdict::OutOfProgramOrder(number) => out.named("out of program order", number),
-        Verdict::WrongValue(number) => out.named("wrong value", number),
+        Verdict::Legal => out.put_word("legal"),
+        Verdict::BadNumber(number) => out.put_named_number("bad number", number),
+        Verdict::OutOfProgramOrder(number) => out.put_named_number("out of program order", number),
+        Verdict::WrongValue(number) => out.put_named_number("wrong value", number),
     }
 }
 
@@ -121,10 +121,10 @@ fn name_of_answer(answer: &Answer) -> &'static str {
 
 /// The answer to an event.
 pub fn put_answer(answer: &Answer, out: &mut Reply) {
-    out.word(name_of_answer(answer));
+    out.put_word(name_of_answer(answer));
     match answer {
         Answer::Completed(record) => put_record(record, out),
-        Answer::Refused(refusal) => out.word(name_of_refusal(*refusal)),
+        Answer::Refused(refusal) => out.put_word(name_of_refusal(*refusal)),
         _ => {}
     }
 }
@@ -133,30 +133,30 @@ pub fn put_answer(answer: &Answer, out: &mut Reply) {
 pub fn put_event(event: &Event, out: &mut Reply) {
     match *event {
         Event::Issue(core, op) => {
-            out.named("issue", u64::from(core));
+            out.put_named_number("issue", u64::from(core));
             put_op(&op, out);
         }
-        Event::Attempt(core) => out.named("attempt", u64::from(core)),
+        Event::Attempt(core) => out.put_named_number("attempt", u64::from(core)),
         Event::Deliver(message) => {
-            out.word("deliver");
-            out.message(message.0);
+            out.put_word("deliver");
+            out.put_message_number(message.0);
         }
         Event::EvictCache(core, line) => {
-            out.named("evict core", u64::from(core));
-            out.line(line);
+            out.put_named_number("evict core", u64::from(core));
+            out.put_line_address(line);
         }
         Event::EvictBank(bank, line) => {
-            out.named("evict bank", u64::from(bank));
-            out.line(line);
+            out.put_named_number("evict bank", u64::from(bank));
+            out.put_line_address(line);
         }
-        Event::Advance(core) => out.named("advance", u64::from(core)),
+        Event::Advance(core) => out.put_named_number("advance", u64::from(core)),
     }
 }
 
 /// How many messages of the counted kinds were sent.
-pub fn put_counts(counts: &Counts, out: &mut Reply) {
-    out.counted("renewals", counts.renewals);
-    out.counted("upgrades", counts.upgrades);
-    out.counted("flushes", counts.flushes);
-    out.counted("write-backs", counts.write_backs);
+pub fn put_message_counts(counts: &Counts, out: &mut Reply) {
+    out.put_named_count("renewals", counts.renewals);
+    out.put_named_count("upgrades", counts.upgrades);
+    out.put_named_count("flushes", counts.flushes);
+    out.put_named_count("write-backs", counts.write_backs);
 }

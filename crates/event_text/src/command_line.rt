@@ -55,7 +55,7 @@ impl Wishes {
 }
 
 /// Whether the command line has the word `--live` alone.
-pub(crate) fn is_live<R: AllocGlobal + Env>(rt: &R) -> io::Result<bool> {
+pub(crate) fn has_live_option<R: AllocGlobal + Env>(rt: &R) -> io::Result<bool> {
     let words: Vec<String> = env::args(rt)?.collect(rt.alloc())?;
     Ok(match words.as_slice() {
         [_, word] => word.as_str() == "--live",

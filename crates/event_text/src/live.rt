@@ -11,13 +11,13 @@ use std::io::{BufRead, Lines, Write};
 /// Lines that are played one after the other, each with its answer.
 pub trait Dialog: Drop {
     /// The line that is played now; none after the last one.
-    fn turn(&self) -> Option<Turn<'_>>;
+    fn current_turn(&self) -> Option<Turn<'_>>;
 
     /// Takes the answer to the line, and goes on to the next one.
     fn take_answer(&mut self, reply: &Reply) -> io::Result<()>;
 
     /// Takes why the line can't be read, and goes on to the next one.
-    fn refuse(&mut self, cause: Cause) -> io::Result<()>;
+    fn refuse_line(&mut self, cause: Cause) -> io::Result<()>;
 }
 
 /// The lines of an input, each of which is answered before the next one is read. Blank lines get no answer.
@@ -36,12 +36,12 @@ impl<B: BufRead + Drop, W: Write + Drop> Live<B, W> {
             out,
             line: None,
         };
-        live.go_on()?;
+        live.read_next_line()?;
         Ok(live)
     }
 
     /// Goes on to the next line that says something.
-    fn go_on(&mut self) -> io::Result<()> {
+    fn read_next_line(&mut self) -> io::Result<()> {
         self.line = None;
         for _ in 0..u64::MAX {
             let Some(line) = self.lines.next() else {
@@ -57,15 +57,15 @@ impl<B: BufRead + Drop, W: Write + Drop> Live<B, W> {
     }
 
     /// Answers the line, and goes on.
-    fn say(&mut self, about: &str, answer: &str) -> io::Result<()> {
+    fn write_answer(&mut self, about: &str, answer: &str) -> io::Result<()> {
         writeln!(self.out, "{about}{answer}")?;
         self.out.flush()?;
-        self.go_on()
+        self.read_next_line()
     }
 }
 
 impl<B: BufRead + Drop, W: Write + Drop> Dialog for Live<B, W> {
-    fn turn(&self) -> Option<Turn<'_>> {
+    fn current_turn(&self) -> Option<Turn<'_>> {
         let line = self.line.as_ref()?;
         Some(Turn {
             line: 1,
@@ -76,13 +76,13 @@ impl<B: BufRead + Drop, W: Write + Drop> Dialog for Live<B, W> {
     }
 
     fn take_answer(&mut self, reply: &Reply) -> io::Result<()> {
-        self.say("", reply.told()?)
+        self.write_answer("", reply.whole_text()?)
     }
 
-    fn refuse(&mut self, cause: Cause) -> io::Result<()> {
+    fn refuse_line(&mut self, cause: Cause) -> io::Result<()> {
         match cause {
-            Cause::NoMemory => self.say("", NO_MEMORY),
-            cause => self.say("unread: ", cause.text()),
+            Cause::NoMemory => self.write_answer("", NO_MEMORY),
+            cause => self.write_answer("unread: ", cause.text()),
         }
     }
 }

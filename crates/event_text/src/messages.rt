@@ -6,18 +6,18 @@ use network::{Body, Message, Node, Words};
 use private_cache::{CopyState, LineCopy};
 
 /// The values of a line's words.
-pub fn put_values(words: &Words, out: &mut Reply) {
+pub fn put_line_words(words: &Words, out: &mut Reply) {
     for index in 0..out.line_words.min(8) {
-        out.number(words.get(index as usize));
+        out.put_number(words.get(index as usize));
     }
 }
 
 /// The times of a line, and its words, as `wts 0 rts 10 words 0 7`.
-fn put_timed(wts: u64, rts: u64, words: &Words, out: &mut Reply) {
-    out.named("wts", wts);
-    out.named("rts", rts);
-    out.word("words");
-    put_values(words, out);
+fn put_timed_line(wts: u64, rts: u64, words: &Words, out: &mut Reply) {
+    out.put_named_number("wts", wts);
+    out.put_named_number("rts", rts);
+    out.put_word("words");
+    put_line_words(words, out);
 }
 
 fn put_node(node: &Node, out: &mut Reply) {
@@ -26,13 +26,13 @@ fn put_node(node: &Node, out: &mut Reply) {
         Node::Bank(number) => ("bank", number),
         Node::Dram(number) => ("dram", number),
     };
-    out.named(name, u64::from(number));
+    out.put_named_number(name, u64::from(number));
 }
 
 fn put_version(version: Option<u64>, out: &mut Reply) {
     match version {
-        Some(version) => out.named("version", version),
-        None => out.word("version none"),
+        Some(version) => out.put_named_number("version", version),
+        None => out.put_word("version none"),
     }
 }
 
@@ -55,7 +55,7 @@ const KINDS: [&str; 14] = [
 ];
 
 /// The place of a message's kind among their names.
-pub fn kind_of(body: &Body) -> usize {
+pub fn message_kind_index(body: &Body) -> usize {
     match body {
         Body::ShReq { .. } => 0,
         Body::ExReq { .. } => 1,
@@ -75,7 +75,7 @@ pub fn kind_of(body: &Body) -> usize {
 }
 
 /// The name of the kind at a place; an empty one where there is none.
-pub fn name_of_kind(kind: usize) -> &'static str {
+pub fn message_kind_name(kind: usize) -> &'static str {
     match KINDS.get(kind) {
         Some(name) => name,
         None => "",
@@ -83,22 +83,22 @@ pub fn name_of_kind(kind: usize) -> &'static str {
 }
 
 /// What a message carries.
-fn put_carried(body: &Body, out: &mut Reply) {
+fn put_message_body(body: &Body, out: &mut Reply) {
     match body {
         Body::ShReq { pts, version } => {
-            out.named("pts", *pts);
+            out.put_named_number("pts", *pts);
             put_version(*version, out);
         }
         Body::ExReq { version } => put_version(*version, out),
         Body::ShRep(line) | Body::ExRep(line) | Body::FlushRep(line) | Body::WbRep(line) => {
-            put_timed(line.wts, line.rts, &line.words, out);
+            put_timed_line(line.wts, line.rts, &line.words, out);
         }
         Body::RenewRep { rts } | Body::UpgradeRep { rts } | Body::WbReq { rts } => {
-            out.named("rts", *rts);
+            out.put_named_number("rts", *rts);
         }
         Body::DramLdRep(words) | Body::DramSt(words) => {
-            out.word("words");
-            put_values(words, out);
+            out.put_word("words");
+            put_line_words(words, out);
         }
         Body::FlushReq | Body::DramLd | Body::DramStRep => {}
     }
@@ -106,48 +106,54 @@ fn put_carried(body: &Body, out: &mut Reply) {
 
 /// A message: its kind, its ends, its line and what it carries.
 pub fn put_message(message: &Message, out: &mut Reply) {
-    out.word(name_of_kind(kind_of(&message.body)));
+    out.put_word(message_kind_name(message_kind_index(&message.body)));
     put_node(&message.from, out);
-    out.word(">");
+    out.put_word(">");
     put_node(&message.to, out);
-    out.line(message.line);
-    put_carried(&message.body, out);
+    out.put_line_address(message.line);
+    put_message_body(&message.body, out);
 }
 
 /// A message, or `none`.
 pub fn put_message_or_none(message: Option<&Message>, out: &mut Reply) {
     match message {
         Some(message) => put_message(message, out),
-        None => out.word("none"),
+        None => out.put_word("none"),
     }
 }
 
 /// A core's copy of a line, or `none`.
 pub fn put_copy(copy: Option<&LineCopy>, out: &mut Reply) {
     let Some(copy) = copy else {
-        return out.word("none");
+        return out.put_word("none");
     };
-    out.word(match copy.state {
+    out.put_word(match copy.state {
         CopyState::Shared => "shared",
         CopyState::Exclusive => "exclusive",
     });
     if copy.written {
-        out.word("written");
+        out.put_word("written");
     }
-    put_timed(copy.wts, copy.rts, &copy.words, out);
+    put_timed_line(copy.wts, copy.rts, &copy.words, out);
 }
 
 /// What a bank keeps of a line, or `none`.
 pub fn put_entry(entry: Option<&Entry>, out: &mut Reply) {
     match entry {
-        None => out.word("none"),
-        Some(Entry::Loading) => out.word("loading"),
-        Some(Entry::Storing) => out.word("storing"),
-        Some(Entry::Exclusive { owner }) => out.named("exclusive owner", u64::from(*owner)),
-        Some(Entry::Recalling { owner }) => out.named("recalling owner", u64::from(*owner)),
+        None => out.put_word("none"),
+        Some(Entry::Loading) => out.put_word("loading"),
+        Some(Entry::Storing) => out.put_word("storing"),
+        Some(Entry::Exclusive { owner }) => out.put_named_number(
+            "exclusive owner",
+            u64::from(*owner),
+        ),
+        Some(Entry::Recalling { owner }) => out.put_named_number(
+            "recalling owner",
+            u64::from(*owner),
+        ),
         Some(Entry::Shared { dirty, line }) => {
-            out.word(if *dirty { "shared dirty" } else { "shared" });
-            put_timed(line.wts, line.rts, &line.words, out);
+            out.put_word(if *dirty { "shared dirty" } else { "shared" });
+            put_timed_line(line.wts, line.rts, &line.words, out);
         }
     }
 }

@@ -16,7 +16,7 @@ pub struct Opening {
 }
 
 /// The number of an option in 32 bits.
-fn narrow(number: u64) -> u32 {
+fn option_in_32_bits(number: u64) -> u32 {
     u32::try_from(number).unwrap_or(u32::MAX)
 }
 
@@ -25,39 +25,43 @@ fn default_config() -> Config {
     let options = MachineOptions::DEFAULT;
     Config {
         cores: 2,
-        banks: narrow(options.banks),
-        sets: narrow(options.sets),
-        ways: narrow(options.ways),
-        bank_sets: narrow(options.bank_sets),
-        bank_ways: narrow(options.bank_ways),
-        line_words: narrow(options.line_words),
+        banks: option_in_32_bits(options.banks),
+        sets: option_in_32_bits(options.sets),
+        ways: option_in_32_bits(options.ways),
+        bank_sets: option_in_32_bits(options.bank_sets),
+        bank_ways: option_in_32_bits(options.bank_ways),
+        line_words: option_in_32_bits(options.line_words),
         lease: options.lease,
-        messages: narrow(options.messages),
+        messages: option_in_32_bits(options.messages),
         opening_time: options.time,
         private_write: options.private_write,
     }
 }
 
 /// Reads the value of an option.
-fn set(config: &mut Config, option: &str, words: &mut Words<'_>) -> Result<(), Cause> {
+fn read_config_option(
+    config: &mut Config,
+    option: &str,
+    words: &mut Words<'_>,
+) -> Result<(), Cause> {
     match option {
-        "cores" => config.cores = words.small()?,
-        "banks" => config.banks = words.small()?,
-        "sets" => config.sets = words.small()?,
-        "ways" => config.ways = words.small()?,
-        "bank-sets" => config.bank_sets = words.small()?,
-        "bank-ways" => config.bank_ways = words.small()?,
-        "line-words" => config.line_words = words.small()?,
-        "lease" => config.lease = words.number()?,
-        "messages" => config.messages = words.small()?,
-        "time" => config.opening_time = words.number()?,
-        "private-write" => config.private_write = is_yes(words)?,
+        "cores" => config.cores = words.next_small_number()?,
+        "banks" => config.banks = words.next_small_number()?,
+        "sets" => config.sets = words.next_small_number()?,
+        "ways" => config.ways = words.next_small_number()?,
+        "bank-sets" => config.bank_sets = words.next_small_number()?,
+        "bank-ways" => config.bank_ways = words.next_small_number()?,
+        "line-words" => config.line_words = words.next_small_number()?,
+        "lease" => config.lease = words.next_number()?,
+        "messages" => config.messages = words.next_small_number()?,
+        "time" => config.opening_time = words.next_number()?,
+        "private-write" => config.private_write = read_yes_or_no(words)?,
         _ => return Err(Cause::Option),
     }
     Ok(())
 }
 
-fn is_yes(words: &mut Words<'_>) -> Result<bool, Cause> {
+fn read_yes_or_no(words: &mut Words<'_>) -> Result<bool, Cause> {
     match words.next_word() {
         Some("yes") => Ok(true),
         Some("no") => Ok(false),
@@ -66,15 +70,15 @@ fn is_yes(words: &mut Words<'_>) -> Result<bool, Cause> {
 }
 
 /// The words after `with`, up to the end: addresses, each with its value.
-fn with_words(alloc: Global, words: &mut Words<'_>) -> Result<Vec<(WordAddr, u64)>, Cause> {
+fn read_opening_words(alloc: Global, words: &mut Words<'_>) -> Result<Vec<(WordAddr, u64)>, Cause> {
     let mut values = Vec::new(alloc);
-    let mut address = words.address()?;
+    let mut address = words.next_address()?;
     for _ in 0..u64::MAX {
-        values.push((address, words.number()?))?;
+        values.push((address, words.next_number()?))?;
         let Some(word) = words.next_word() else {
             break;
         };
-        address = words.address_in(word)?;
+        address = words.address_of_word(word)?;
     }
     Ok(values)
 }
@@ -86,10 +90,10 @@ pub fn read_opening(alloc: Global, words: &mut Words<'_>) -> Result<Opening, Cau
         match words.next_word() {
             None => break,
             Some("with") => {
-                let words = with_words(alloc, words)?;
+                let words = read_opening_words(alloc, words)?;
                 return Ok(Opening { config, words });
             }
-            Some(option) => set(&mut config, option, words)?,
+            Some(option) => read_config_option(&mut config, option, words)?,
         }
     }
     Ok(Opening {
@@ -99,16 +103,19 @@ pub fn read_opening(alloc: Global, words: &mut Words<'_>) -> Result<Opening, Cau
 }
 
 /// Reads what follows `reopen`: `with` and words, or nothing.
-pub fn read_words(alloc: Global, words: &mut Words<'_>) -> Result<Vec<(WordAddr, u64)>, Cause> {
+pub fn read_reopening_words(
+    alloc: Global,
+    words: &mut Words<'_>,
+) -> Result<Vec<(WordAddr, u64)>, Cause> {
     match words.next_word() {
         None => Ok(Vec::new(alloc)),
-        Some("with") => with_words(alloc, words),
+        Some("with") => read_opening_words(alloc, words),
         Some(_) => Err(Cause::With),
     }
 }
 
 /// A memory with these words.
-pub fn memory_of(alloc: Global, words: &[(WordAddr, u64)]) -> Result<Memory, AllocError> {
+pub fn opening_memory_of(alloc: Global, words: &[(WordAddr, u64)]) -> Result<Memory, AllocError> {
     let mut memory = Memory::new(alloc);
     for (word, value) in words {
         memory.set(*word, *value)?;

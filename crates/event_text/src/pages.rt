@@ -3,7 +3,7 @@
 
 use crate::command_line::Manner;
 use crate::replies::Reply;
-use crate::turned::{is_wanted, put_turned};
+use crate::turned::{is_expected_answer, put_words_in_turn};
 use crate::turns::Turn;
 use crate::written::Written;
 use std::alloc::{AllocError, Global};
@@ -70,7 +70,7 @@ impl<'a> Page<'a> {
     }
 
     /// An example begins.
-    pub(crate) fn begin(&mut self) {
+    pub(crate) fn begin_example(&mut self) {
         self.examples = self.examples.saturating_add(1);
         self.firsts.clear();
         self.wrong_turns.clear();
@@ -89,7 +89,7 @@ impl<'a> Page<'a> {
     }
 
     /// The exit status that the text asks for.
-    pub(crate) fn status(&self) -> u8 {
+    pub(crate) fn exit_status(&self) -> u8 {
         if self.unreadable > 0 {
             3
         } else {
@@ -114,12 +114,19 @@ impl<'a> Page<'a> {
     }
 
     /// Notes the answers to a line whose text is to be written.
-    fn note(&mut self, turn: &Turn<'_>, came: &str, is_right: bool) -> Result<(), AllocError> {
+    fn note_answer_to_print(
+        &mut self,
+        turn: &Turn<'_>,
+        came: &str,
+        is_right: bool,
+    ) -> Result<(), AllocError> {
         let Some(place) = self.written.get_mut(turn.line.saturating_sub(1)) else {
             return Ok(());
         };
         match place {
-            Some(written) => { written.take(self.alloc, came, turn.turn, is_right, &mut self.told) }
+            Some(written) => {
+                written.take_next_answer(self.alloc, came, turn.turn, is_right, &mut self.told)
+            }
             None => {
                 *place = Some(Written::new(self.alloc, came, is_right)?);
                 Ok(())
@@ -134,35 +141,35 @@ impl<'a> Page<'a> {
         reply: &Reply,
         out: &mut W,
     ) -> io::Result<()> {
-        let came = reply.told()?;
+        let came = reply.whole_text()?;
         if self.how.three_ways {
-            self.keep(turn.line, came)?;
+            self.keep_first_answer(turn.line, came)?;
         }
         let Some(wanted) = turn.wanted else {
-            self.note(turn, came, false)?;
+            self.note_answer_to_print(turn, came, false)?;
             return self.report_unasked(turn, came, out);
         };
         self.answers = self.answers.saturating_add(1);
-        put_turned(wanted, turn.turn, &mut self.told);
-        let is_right = is_wanted(self.told.told()?, came);
-        self.note(turn, came, is_right)?;
+        put_words_in_turn(wanted, turn.turn, &mut self.told);
+        let is_right = is_expected_answer(self.told.whole_text()?, came);
+        self.note_answer_to_print(turn, came, is_right)?;
         if is_right {
             return Ok(());
         }
         self.wrong = self.wrong.saturating_add(1);
-        if self.how.prints || !self.is_first_wrong(turn.line)? {
+        if self.how.prints || !self.count_wrong_turn(turn.line)? {
             return Ok(());
         }
         write!(out, "{}:{}: ", self.name, turn.line)?;
         if let Some(turns) = turn.turn {
             write!(out, "turn {}: ", turns.saturating_add(1))?;
         }
-        put_turned(wanted, turn.turn, &mut self.told);
-        writeln!(out, "wanted {}, came {came}", self.told.told()?)
+        put_words_in_turn(wanted, turn.turn, &mut self.told);
+        writeln!(out, "wanted {}, came {came}", self.told.whole_text()?)
     }
 
     /// Notes a wrong answer to a line; whether it is the first one.
-    fn is_first_wrong(&mut self, line: usize) -> Result<bool, AllocError> {
+    fn count_wrong_turn(&mut self, line: usize) -> Result<bool, AllocError> {
         for noted in self.wrong_turns.iter_mut() {
             if noted.0 == line {
                 noted.1 = noted.1.saturating_add(1);
@@ -183,26 +190,26 @@ impl<'a> Page<'a> {
         if self.how.prints {
             return Ok(());
         }
-        put_turned(turn.call, turn.turn, &mut self.told);
-        writeln!(out, "{} : {came}", self.told.told()?)
+        put_words_in_turn(turn.call, turn.turn, &mut self.told);
+        writeln!(out, "{} : {came}", self.told.whole_text()?)
     }
 
     /// Keeps an answer, to be compared with those of other ways.
-    fn keep(&mut self, line: usize, came: &str) -> Result<(), AllocError> {
+    fn keep_first_answer(&mut self, line: usize, came: &str) -> Result<(), AllocError> {
         let answer = String::from_str(self.alloc, came)?;
         self.firsts.push(First { line, answer })?;
         Ok(())
     }
 
     /// Reports an answer of another way, if it differs from that at an index of the first ones.
-    pub fn compare<W: Write + Drop>(
+    pub fn compare_answer<W: Write + Drop>(
         &mut self,
         at: usize,
         reply: &Reply,
         way: &str,
         out: &mut W,
     ) -> io::Result<()> {
-        let came = reply.told()?;
+        let came = reply.whole_text()?;
         let Some(first) = self.firsts.get(at) else {
             return Ok(());
         };
@@ -223,7 +230,7 @@ impl<'a> Page<'a> {
         way: &str,
         out: &mut W,
     ) -> io::Result<()> {
-        let came = reply.told()?;
+        let came = reply.whole_text()?;
         if came == wanted {
             return Ok(());
         }
@@ -237,7 +244,11 @@ impl<'a> Page<'a> {
     }
 
     /// Reports how many examples and answers there were, or writes the text with its answers.
-    pub(crate) fn end<W: Write + Drop>(&mut self, lines: &[&str], out: &mut W) -> io::Result<()> {
+    pub(crate) fn end_text<W: Write + Drop>(
+        &mut self,
+        lines: &[&str],
+        out: &mut W,
+    ) -> io::Result<()> {
         if self.how.prints {
             return self.write_text(lines, out);
         }
@@ -257,10 +268,10 @@ impl<'a> Page<'a> {
         for (at, line) in lines.iter().enumerate() {
             self.told.clear();
             match self.written.get(at) {
-                Some(Some(written)) => written.put(line, &mut self.told)?,
-                _ => self.told.add(line),
+                Some(Some(written)) => written.put_line(line, &mut self.told)?,
+                _ => self.told.put_text(line),
             }
-            writeln!(out, "{}", self.told.told()?)?;
+            writeln!(out, "{}", self.told.whole_text()?)?;
         }
         Ok(())
     }

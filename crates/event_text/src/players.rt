@@ -2,7 +2,7 @@
 //! lines that come are answered one by one.
 
 use crate::causes::{Cause, Fault};
-use crate::command_line::{Manner, Wishes, is_live};
+use crate::command_line::{Manner, Wishes, has_live_option};
 use crate::live::{Dialog, Live};
 use crate::pages::Page;
 use crate::texts::{Example, Text};
@@ -21,10 +21,10 @@ pub const NO_MACHINE: &str = "no machine";
 /// What plays examples, and lines that come.
 pub trait Player {
     /// Reads a line that is played, to see whether it can be read.
-    fn read(&self, alloc: Global, turn: &Turn<'_>) -> Result<(), Cause>;
+    fn check_line(&self, alloc: Global, turn: &Turn<'_>) -> Result<(), Cause>;
 
     /// Plays an example whose lines can all be read.
-    fn play<W: Write + Drop>(
+    fn play_readable_example<W: Write + Drop>(
         &self,
         alloc: Global,
         example: &Example<'_>,
@@ -33,20 +33,24 @@ pub trait Player {
     ) -> io::Result<()>;
 
     /// Plays lines, also such as can't be read, to the last one.
-    fn answer<D: Dialog>(&self, alloc: Global, dialog: &mut D) -> io::Result<()>;
+    fn answer_lines<D: Dialog>(&self, alloc: Global, dialog: &mut D) -> io::Result<()>;
 
     /// Whether there is a second and a third way to play an example.
-    fn has_ways(&self) -> bool;
+    fn has_other_ways(&self) -> bool;
 }
 
 /// Reads all lines of an example; the first fault.
-fn read_all<P: Player>(player: &P, alloc: Global, example: &Example<'_>) -> Result<(), Fault> {
+fn check_lines_of_example<P: Player>(
+    player: &P,
+    alloc: Global,
+    example: &Example<'_>,
+) -> Result<(), Fault> {
     let mut cursor = example.cursor();
     for _ in 0..u64::MAX {
         let Some(turn) = cursor.next_turn()? else {
             break;
         };
-        if let Err(cause) = player.read(alloc, &turn) {
+        if let Err(cause) = player.check_line(alloc, &turn) {
             return Err(Fault {
                 line: turn.line,
                 cause,
@@ -64,10 +68,10 @@ fn play_example<P: Player, W: Write + Drop>(
     page: &mut Page<'_>,
     out: &mut W,
 ) -> io::Result<()> {
-    match read_all(player, alloc, example) {
+    match check_lines_of_example(player, alloc, example) {
         Ok(()) if example.has_heading() => {
-            page.begin();
-            player.play(alloc, example, page, out)?;
+            page.begin_example();
+            player.play_readable_example(alloc, example, page, out)?;
             page.end_example(out)
         }
         Ok(()) => Ok(()),
@@ -95,16 +99,16 @@ fn play_text<R: AllocGlobal + Eprint, P: Player, W: Write + Drop>(
         let Some(example) = text.example_at(at) else {
             break;
         };
-        at = example.end();
+        at = example.end_index();
         play_example(player, alloc, &example, &mut page, out)?;
     }
-    page.end(text.lines(), out)?;
+    page.end_text(text.lines(), out)?;
     eprint!(rt; "{}", page.faults)?;
-    Ok(page.status())
+    Ok(page.exit_status())
 }
 
 /// The text of a file, or of standard input.
-fn content_of<R: AllocGlobal + Input + Files>(rt: &R, name: &str) -> io::Result<String> {
+fn read_file_or_input<R: AllocGlobal + Input + Files>(rt: &R, name: &str) -> io::Result<String> {
     if name == "-" {
         return io::read_to_string(rt.alloc(), rt.reader());
     }
@@ -112,7 +116,7 @@ fn content_of<R: AllocGlobal + Input + Files>(rt: &R, name: &str) -> io::Result<
 }
 
 /// Plays the files that the command line names; the exit status.
-fn play_wishes<R, P: Player, W: Write + Drop>(
+fn play_named_files<R, P: Player, W: Write + Drop>(
     rt: &R,
     player: &P,
     wishes: &Wishes,
@@ -123,7 +127,7 @@ where
 {
     let mut status = 0;
     for name in &wishes.files {
-        let content = content_of(rt, name.as_str())?;
+        let content = read_file_or_input(rt, name.as_str())?;
         let (name, content) = (name.as_str(), content.as_str());
         let of_text = play_text(rt, player, name, content, wishes.how, out)?;
         status = of_text.max(status);
@@ -132,7 +136,7 @@ where
 }
 
 /// What the words of the command line ask for.
-fn wishes_of<R: AllocGlobal + Env>(rt: &R, has_ways: bool) -> io::Result<Option<Wishes>> {
+fn read_wishes<R: AllocGlobal + Env>(rt: &R, has_ways: bool) -> io::Result<Option<Wishes>> {
     let words = env::args(rt)?.collect(rt.alloc())?;
     match Wishes::new(rt.alloc(), words)? {
         Some(wishes) if wishes.how.three_ways && !has_ways => Ok(None),
@@ -145,12 +149,12 @@ fn play_files<R, P: Player>(rt: &R, player: &P) -> io::Result<u8>
 where
     R: AllocGlobal + Input + Print + Eprint + Files + Env,
 {
-    let Some(wishes) = wishes_of(rt, player.has_ways())? else {
+    let Some(wishes) = read_wishes(rt, player.has_other_ways())? else {
         rt.eprintln("bad command line")?;
         return Ok(3);
     };
     let mut out = BufWriter::new(rt.alloc(), io::writer(rt))?;
-    let played = play_wishes(rt, player, &wishes, &mut out);
+    let played = play_named_files(rt, player, &wishes, &mut out);
     out.flush()?;
     played
 }
@@ -162,7 +166,7 @@ where
 {
     let alloc = rt.alloc();
     let mut live = Live::new(rt.lines(alloc), io::writer(rt))?;
-    player.answer(alloc, &mut live)?;
+    player.answer_lines(alloc, &mut live)?;
     Ok(0)
 }
 
@@ -171,7 +175,7 @@ pub fn run_player<R, P: Player>(rt: &R, player: &P) -> u8
 where
     R: AllocGlobal + Input + Print + Eprint + Files + Env,
 {
-    let played = match is_live(rt) {
+    let played = match has_live_option(rt) {
         Ok(true) => play_live(rt, player),
         Ok(false) => play_files(rt, player),
         Err(error) => Err(error),

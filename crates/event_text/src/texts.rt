@@ -17,7 +17,7 @@ pub struct Example<'a> {
 }
 
 /// What a line says, without its comment.
-pub(crate) fn without_comment(line: &str) -> &str {
+pub(crate) fn line_without_comment(line: &str) -> &str {
     match line.split_once('#') {
         Some((said, _)) => said,
         None => line,
@@ -30,12 +30,12 @@ pub(crate) fn first_word(text: &str) -> &str {
 }
 
 /// What follows a beginning of a text.
-pub fn behind<'a>(text: &'a str, beginning: &str) -> &'a str {
+pub fn text_after_prefix<'a>(text: &'a str, beginning: &str) -> &'a str {
     text.strip_prefix(beginning).unwrap_or("")
 }
 
-fn is_heading(line: &str) -> bool {
-    first_word(without_comment(line)) == "example"
+fn is_example_heading(line: &str) -> bool {
+    first_word(line_without_comment(line)) == "example"
 }
 
 impl<'a> Text<'a> {
@@ -55,7 +55,10 @@ impl<'a> Text<'a> {
     pub fn example_at(&self, from: usize) -> Option<Example<'_>> {
         let lines = self.lines.get(from..)?;
         let (_, rest) = lines.split_first()?;
-        let behind = rest.iter().take_while(|line| !is_heading(line)).count();
+        let behind = rest
+            .iter()
+            .take_while(|line| !is_example_heading(line))
+            .count();
         let lines = lines.get(..behind.saturating_add(1))?;
         Some(Example {
             lines,
@@ -66,14 +69,14 @@ impl<'a> Text<'a> {
 
 impl<'a> Example<'a> {
     /// The index of the line after it.
-    pub fn end(&self) -> usize {
+    pub fn end_index(&self) -> usize {
         self.before.saturating_add(self.lines.len())
     }
 
     /// Whether it begins with a line `example`; otherwise it is what comes before the first one.
     pub fn has_heading(&self) -> bool {
         match self.lines.first() {
-            Some(line) => is_heading(line),
+            Some(line) => is_example_heading(line),
             None => false,
         }
     }

@@ -1,8 +1,8 @@
 //! The lines of an example in the order in which they are played: what is repeated comes as often as it says.
 
 use crate::causes::{Cause, Fault};
-use crate::texts::{Example, behind, first_word, without_comment};
-use crate::turned::decimal;
+use crate::texts::{Example, first_word, line_without_comment, text_after_prefix};
+use crate::turned::decimal_number;
 use crate::words::Words;
 use std::str::Split;
 
@@ -20,18 +20,18 @@ pub struct Turn<'a> {
 
 impl<'a> Turn<'a> {
     /// The words of its call, for a machine with this many words in a line.
-    pub fn words(&self, line_words: u32) -> Words<'a> {
+    pub fn call_words(&self, line_words: u32) -> Words<'a> {
         Words::new(self.call, self.turn, line_words)
     }
 
     /// The name of its call.
-    pub fn name(&self) -> &'a str {
+    pub fn call_name(&self) -> &'a str {
         first_word(self.call)
     }
 
     /// The texts between the `;` after the call's name.
-    pub fn parts(&self) -> Split<'a, char> {
-        behind(self.call, self.name()).split(';')
+    pub fn call_parts(&self) -> Split<'a, char> {
+        text_after_prefix(self.call, self.call_name()).split(';')
     }
 }
 
@@ -69,75 +69,75 @@ impl<'a> Cursor<'a> {
     pub fn next_turn(&mut self) -> Result<Option<Turn<'a>>, Fault> {
         for _ in 0..u64::MAX {
             let Some(line) = self.example.lines.get(self.at) else {
-                return self.ended();
+                return self.check_repeat_ended();
             };
-            match self.step(without_comment(line)) {
+            match self.read_line(line_without_comment(line)) {
                 Ok(None) => {}
                 Ok(turn) => return Ok(turn),
-                Err(cause) => return Err(self.fault(self.at, cause)),
+                Err(cause) => return Err(self.fault_of_line(self.at, cause)),
             }
         }
         Ok(None)
     }
 
     /// The fault of the line at an index.
-    fn fault(&self, at: usize, cause: Cause) -> Fault {
+    fn fault_of_line(&self, at: usize, cause: Cause) -> Fault {
         Fault {
-            line: self.number(at),
+            line: self.line_number(at),
             cause,
         }
     }
 
-    fn number(&self, at: usize) -> usize {
+    fn line_number(&self, at: usize) -> usize {
         self.example.before.saturating_add(at).saturating_add(1)
     }
 
-    fn ended(&self) -> Result<Option<Turn<'a>>, Fault> {
+    fn check_repeat_ended(&self) -> Result<Option<Turn<'a>>, Fault> {
         match self.repeated {
-            Some(block) => Err(self.fault(block.from.saturating_sub(1), Cause::NoEnd)),
+            Some(block) => Err(self.fault_of_line(block.from.saturating_sub(1), Cause::NoEnd)),
             None => Ok(None),
         }
     }
 
     /// What a line is: a call, or nothing to play.
-    fn step(&mut self, said: &'a str) -> Result<Option<Turn<'a>>, Cause> {
+    fn read_line(&mut self, said: &'a str) -> Result<Option<Turn<'a>>, Cause> {
         let mut words = said.split_ascii_whitespace();
         match words.next() {
-            None => Ok(self.pass()),
+            None => Ok(self.skip_line()),
             Some("example") => match words.next() {
-                Some(_) => Ok(self.pass()),
+                Some(_) => Ok(self.skip_line()),
                 None => Err(Cause::NoTitle),
             },
             Some(_) if !self.example.has_heading() => Err(Cause::NoExample),
-            Some("repeat") => self.repeat(said),
-            Some("end") => self.end_block(words.next().is_some()),
-            Some(_) => self.call(said),
+            Some("repeat") => self.read_repeat_line(said),
+            Some("end") => self.read_end_line(words.next().is_some()),
+            Some(_) => self.read_call_line(said),
         }
     }
 
     /// Goes on to the next line, with nothing to play.
-    fn pass(&mut self) -> Option<Turn<'a>> {
+    fn skip_line(&mut self) -> Option<Turn<'a>> {
         self.at = self.at.saturating_add(1);
         None
     }
 
     /// A line that begins with `repeat`.
-    fn repeat(&mut self, said: &'a str) -> Result<Option<Turn<'a>>, Cause> {
-        let (turns, call) = turns_of(said)?;
+    fn read_repeat_line(&mut self, said: &'a str) -> Result<Option<Turn<'a>>, Cause> {
+        let (turns, call) = read_repeat_count(said)?;
         match self.repeated {
             Some(line) if line.is_line => {}
             Some(_) => return Err(Cause::Inside),
-            None => self.begin(turns, !call.is_empty()),
+            None => self.begin_repetition(turns, !call.is_empty()),
         }
         if call.is_empty() {
-            return Ok(self.pass());
+            return Ok(self.skip_line());
         }
-        let turn = self.turn_of(call)?;
-        self.go_on();
+        let turn = self.read_turn(call)?;
+        self.go_to_next_turn();
         Ok(Some(turn))
     }
 
-    fn begin(&mut self, turns: u64, is_line: bool) {
+    fn begin_repetition(&mut self, turns: u64, is_line: bool) {
         let block = self.at.saturating_add(1);
         self.repeated = Some(Repeated {
             from: if is_line { self.at } else { block },
@@ -149,20 +149,20 @@ impl<'a> Cursor<'a> {
     }
 
     /// A line that begins with `end`.
-    fn end_block(&mut self, has_more: bool) -> Result<Option<Turn<'a>>, Cause> {
+    fn read_end_line(&mut self, has_more: bool) -> Result<Option<Turn<'a>>, Cause> {
         match self.repeated {
             None => Err(Cause::NoRepeat),
             Some(_) if has_more => Err(Cause::MoreWords),
             Some(block) if !block.has_call => Err(Cause::Empty),
             Some(_) => {
-                self.go_on();
+                self.go_to_next_turn();
                 Ok(None)
             }
         }
     }
 
     /// Ends a turn: the next one begins, or the lines after the repetition.
-    fn go_on(&mut self) {
+    fn go_to_next_turn(&mut self) {
         let Some(repeated) = self.repeated else {
             return;
         };
@@ -177,8 +177,8 @@ impl<'a> Cursor<'a> {
     }
 
     /// A line with a call.
-    fn call(&mut self, said: &'a str) -> Result<Option<Turn<'a>>, Cause> {
-        let turn = self.turn_of(said)?;
+    fn read_call_line(&mut self, said: &'a str) -> Result<Option<Turn<'a>>, Cause> {
+        let turn = self.read_turn(said)?;
         if let Some(block) = self.repeated {
             self.repeated = Some(Repeated {
                 has_call: true,
@@ -190,14 +190,14 @@ impl<'a> Cursor<'a> {
     }
 
     /// A call and its expected answer.
-    fn turn_of(&mut self, said: &'a str) -> Result<Turn<'a>, Cause> {
-        let (call, wanted) = parted(said)?;
-        if !self.has_begun && !begins(call) {
+    fn read_turn(&mut self, said: &'a str) -> Result<Turn<'a>, Cause> {
+        let (call, wanted) = split_call_and_answer(said)?;
+        if !self.has_begun && !may_begin_example(call) {
             return Err(Cause::Beginning);
         }
         self.has_begun = true;
         Ok(Turn {
-            line: self.number(self.at),
+            line: self.line_number(self.at),
             call,
             wanted,
             turn: self.repeated.map(|repeated| repeated.turn),
@@ -206,33 +206,33 @@ impl<'a> Cursor<'a> {
 }
 
 /// Whether an example may begin with this call.
-fn begins(call: &str) -> bool {
+fn may_begin_example(call: &str) -> bool {
     matches!(first_word(call), "machine" | "seats" | "numbers")
 }
 
 /// How many turns a line with `repeat` has, and what follows that.
-fn turns_of(said: &str) -> Result<(u64, &str), Cause> {
-    let rest = behind(said.trim(), "repeat").trim();
+fn read_repeat_count(said: &str) -> Result<(u64, &str), Cause> {
+    let rest = text_after_prefix(said.trim(), "repeat").trim();
     let number = first_word(rest);
-    match decimal(number) {
+    match decimal_number(number) {
         Some(0) => Err(Cause::Turns),
-        Some(turns) => Ok((turns, behind(rest, number).trim())),
+        Some(turns) => Ok((turns, text_after_prefix(rest, number).trim())),
         None => Err(Cause::Number),
     }
 }
 
-fn ends_blank(text: &str) -> bool {
+fn ends_with_blank(text: &str) -> bool {
     text.is_empty() || text.ends_with(' ') || text.ends_with('\t')
 }
 
-fn begins_blank(text: &str) -> bool {
+fn begins_with_blank(text: &str) -> bool {
     text.is_empty() || text.starts_with(' ') || text.starts_with('\t')
 }
 
 /// A call, and the answer after the word `:`, if there is one.
-fn parted(said: &str) -> Result<(&str, Option<&str>), Cause> {
+fn split_call_and_answer(said: &str) -> Result<(&str, Option<&str>), Cause> {
     match said.split_once(':') {
-        Some((call, wanted)) if ends_blank(call) && begins_blank(wanted) => {
+        Some((call, wanted)) if ends_with_blank(call) && begins_with_blank(wanted) => {
             if call.trim().is_empty() {
                 return Err(Cause::NoCall);
             }

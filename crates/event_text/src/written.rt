@@ -1,8 +1,8 @@
 //! Lines with the answers that came, written after them.
 
 use crate::replies::Reply;
-use crate::texts::{behind, without_comment};
-use crate::turned::{is_wanted, parted, put_turned};
+use crate::texts::{line_without_comment, text_after_prefix};
+use crate::turned::{is_expected_answer, put_words_in_turn, split_end_mark};
 use std::alloc::{AllocError, Global};
 
 /// The answers to a line.
@@ -17,16 +17,16 @@ pub(crate) struct Written {
 }
 
 /// A text that is the first answer in turn 0, and the second one in turn 1 if the words that differ go on by one.
-fn text_by_turn(alloc: Global, first: &str, second: &str) -> Reply {
+fn answer_by_turn(alloc: Global, first: &str, second: &str) -> Reply {
     let mut text = Reply::new(alloc);
     let mut others = second.split_ascii_whitespace();
     for word in first.split_ascii_whitespace() {
-        let (front, end) = parted(word);
-        text.word(front);
+        let (front, end) = split_end_mark(word);
+        text.put_word(front);
         if others.next() != Some(word) {
-            text.add("+@");
+            text.put_text("+@");
         }
-        text.add(end);
+        text.put_text(end);
     }
     text
 }
@@ -41,7 +41,7 @@ impl Written {
     }
 
     /// Takes in the answer of a further turn; `told` is for a text of that turn.
-    pub(crate) fn take(
+    pub(crate) fn take_next_answer(
         &mut self,
         alloc: Global,
         came: &str,
@@ -51,38 +51,38 @@ impl Written {
     ) -> Result<(), AllocError> {
         self.is_new = self.is_new || !is_right;
         if turn == Some(1) && came != self.first.as_str() {
-            self.by_turn = Some(text_by_turn(alloc, self.first.as_str(), came));
+            self.by_turn = Some(answer_by_turn(alloc, self.first.as_str(), came));
         }
         let Some(text) = &self.by_turn else {
             return Ok(());
         };
-        put_turned(text.told()?, turn, told);
-        if !is_wanted(told.told()?, came) {
+        put_words_in_turn(text.whole_text()?, turn, told);
+        if !is_expected_answer(told.whole_text()?, came) {
             self.by_turn = None;
         }
         Ok(())
     }
 
     /// Writes the line with the answer that came, before its comment; a line that had it already doesn't change.
-    pub(crate) fn put(&self, line: &str, told: &mut Reply) -> Result<(), AllocError> {
+    pub(crate) fn put_line(&self, line: &str, told: &mut Reply) -> Result<(), AllocError> {
         if !self.is_new {
-            told.add(line);
+            told.put_text(line);
             return Ok(());
         }
-        let said = without_comment(line);
+        let said = line_without_comment(line);
         match said.split_once(':') {
-            Some((call, _)) => told.add(call),
+            Some((call, _)) => told.put_text(call),
             None => {
-                told.add(said.trim_end());
-                told.add(" ");
+                told.put_text(said.trim_end());
+                told.put_text(" ");
             }
         }
-        told.add(": ");
+        told.put_text(": ");
         match &self.by_turn {
-            Some(text) => told.add(text.told()?),
-            None => told.add(self.first.as_str()),
+            Some(text) => told.put_text(text.whole_text()?),
+            None => told.put_text(self.first.as_str()),
         }
-        put_comment(said, behind(line, said), told);
+        put_comment(said, text_after_prefix(line, said), told);
         Ok(())
     }
 }
@@ -92,7 +92,7 @@ fn put_comment(said: &str, comment: &str, told: &mut Reply) {
     if comment.is_empty() {
         return;
     }
-    let blanks = behind(said, said.trim_end());
-    told.add(if blanks.is_empty() { " " } else { blanks });
-    told.add(comment);
+    let blanks = text_after_prefix(said, said.trim_end());
+    told.put_text(if blanks.is_empty() { " " } else { blanks });
+    told.put_text(comment);
 }

@@ -1,7 +1,8 @@
 //! What lines ask for: an opening, events, programs and drives, and look-ups.
 
 use event_text::{
-    Cause, Opening, Part, Seat, Turn, Words, behind, read_opening, read_words, row_of,
+    Cause, Opening, Part, Seat, Turn, Words, read_opening, read_reopening_words, table_row_of_name,
+    text_after_prefix,
 };
 use interleaving_core::Event;
 use physiological_order::{Op, WordAddr};
@@ -97,59 +98,62 @@ const LOOKS: &[(&str, (What, bool, Part))] = &[
 ];
 
 /// The event that a name and the next words call for.
-fn event_of(name: &str, words: &mut Words<'_>) -> Result<Event, Cause> {
+fn read_event(name: &str, words: &mut Words<'_>) -> Result<Event, Cause> {
     match name {
         "issue" => {
-            let core = words.small()?;
-            Ok(Event::Issue(core, words.operation()?))
+            let core = words.next_small_number()?;
+            Ok(Event::Issue(core, words.next_operation()?))
         }
-        "attempt" => Ok(Event::Attempt(words.small()?)),
-        "deliver" => Ok(Event::Deliver(words.message()?)),
-        "evict" => match words.seat()? {
-            Seat::Core(core) => Ok(Event::EvictCache(core, words.line()?)),
-            Seat::Bank(bank) => Ok(Event::EvictBank(bank, words.line()?)),
+        "attempt" => Ok(Event::Attempt(words.next_small_number()?)),
+        "deliver" => Ok(Event::Deliver(words.next_message_number()?)),
+        "evict" => match words.next_seat()? {
+            Seat::Core(core) => Ok(Event::EvictCache(core, words.next_line_number()?)),
+            Seat::Bank(bank) => Ok(Event::EvictBank(bank, words.next_line_number()?)),
         },
-        "advance" => Ok(Event::Advance(words.small()?)),
+        "advance" => Ok(Event::Advance(words.next_small_number()?)),
         _ => Err(Cause::Event),
     }
 }
 
 /// The event that a text calls for, and no more.
-fn event(mut words: Words<'_>) -> Result<Event, Cause> {
-    let name = words.wanted(Cause::Event)?;
-    let event = event_of(name, &mut words)?;
-    words.end()?;
+fn read_listed_event(mut words: Words<'_>) -> Result<Event, Cause> {
+    let name = words.required_word(Cause::Event)?;
+    let event = read_event(name, &mut words)?;
+    words.expect_end()?;
     Ok(event)
 }
 
 /// The events of a list.
-fn events(alloc: Global, turn: &Turn<'_>, line_words: u32) -> Result<Vec<Event>, Cause> {
+fn read_event_list(alloc: Global, turn: &Turn<'_>, line_words: u32) -> Result<Vec<Event>, Cause> {
     let _inside: Option<Op> = None;
     let mut events = Vec::new(alloc);
-    for part in turn.parts() {
-        events.push(event(Words::new(part, turn.turn, line_words))?)?;
+    for part in turn.call_parts() {
+        events.push(read_listed_event(Words::new(part, turn.turn, line_words))?)?;
     }
     Ok(events)
 }
 
 /// A step that a text names, and how often it is repeated.
-fn steps_of(mut words: Words<'_>) -> Result<(u32, Step), Cause> {
-    let word = words.wanted(Cause::Operation)?;
-    let (times, word) = match words.number_in(word) {
-        Ok(_) => (words.small_in(word)?, words.wanted(Cause::Operation)?),
+fn read_repeated_step(mut words: Words<'_>) -> Result<(u32, Step), Cause> {
+    let word = words.required_word(Cause::Operation)?;
+    let (times, word) = match words.number_of_word(word) {
+        Ok(_) => (
+            words.small_number_of_word(word)?,
+            words.required_word(Cause::Operation)?,
+        ),
         Err(_) => (1, word),
     };
     if word == "A" {
-        words.end()?;
+        words.expect_end()?;
         return Ok((times, Step::Advance));
     }
-    let op = words.operation_of(word)?;
-    words.end()?;
+    let op = words.operation_from_word(word)?;
+    words.expect_end()?;
     Ok((times, Step::Op(op)))
 }
 
 /// Adds a step this many times.
-fn add_times(steps: &mut Vec<Step>, times: u32, step: &Step) -> Result<(), Cause> {
+fn push_step_times(steps: &mut Vec<Step>, times: u32, step: &Step) -> Result<(), Cause> {
     let _inside: Option<Op> = None;
     for _ in 0..times {
         steps.push(*step)?;
@@ -158,69 +162,73 @@ fn add_times(steps: &mut Vec<Step>, times: u32, step: &Step) -> Result<(), Cause
 }
 
 /// Adds the steps that a text names.
-fn add_steps(steps: &mut Vec<Step>, words: Words<'_>) -> Result<(), Cause> {
+fn push_read_steps(steps: &mut Vec<Step>, words: Words<'_>) -> Result<(), Cause> {
     let _inside: Option<Op> = None;
-    let (times, step) = steps_of(words)?;
-    add_times(steps, times, &step)
+    let (times, step) = read_repeated_step(words)?;
+    push_step_times(steps, times, &step)
 }
 
 /// A core and its steps; a program without words has none.
-fn program(alloc: Global, turn: &Turn<'_>) -> Result<Call, Cause> {
+fn read_program(alloc: Global, turn: &Turn<'_>) -> Result<Call, Cause> {
     let mut steps = Vec::new(alloc);
-    let mut parts = turn.parts();
+    let mut parts = turn.call_parts();
     let first = parts.next().unwrap_or("").trim();
     let mut words = Words::new(first, turn.turn, 1);
-    let name = words.wanted(Cause::Number)?;
-    let core = words.small_in(name)?;
-    let rest = behind(first, name);
+    let name = words.required_word(Cause::Number)?;
+    let core = words.small_number_of_word(name)?;
+    let rest = text_after_prefix(first, name);
     if !rest.is_empty() {
-        add_steps(&mut steps, Words::new(rest, turn.turn, 1))?;
+        push_read_steps(&mut steps, Words::new(rest, turn.turn, 1))?;
     }
     for part in parts {
-        add_steps(&mut steps, Words::new(part, turn.turn, 1))?;
+        push_read_steps(&mut steps, Words::new(part, turn.turn, 1))?;
     }
     Ok(Call::Program(core, steps))
 }
 
 /// The look-up that a name and the next words ask for.
-fn read_look(name: &str, words: &mut Words<'_>) -> Result<Look, Cause> {
+fn read_look_up(name: &str, words: &mut Words<'_>) -> Result<Look, Cause> {
     if name == "word" {
-        let at = words.address()?.byte();
+        let at = words.next_address()?.byte();
         return Ok(Look {
             what: What::Word,
             number: 0,
             at,
         });
     }
-    let (what, has_number, next) = row_of(LOOKS, name).ok_or(Cause::Call)?;
-    let number = if has_number { words.small()? } else { 0 };
-    let at = words.part(next)?;
+    let (what, has_number, next) = table_row_of_name(LOOKS, name).ok_or(Cause::Call)?;
+    let number = if has_number {
+        words.next_small_number()?
+    } else {
+        0
+    };
+    let at = words.next_part(next)?;
     Ok(Look { what, number, at })
 }
 
 /// What a name and the next words ask for.
-fn call_of(alloc: Global, name: &str, words: &mut Words<'_>) -> Result<Call, Cause> {
+fn read_named_call(alloc: Global, name: &str, words: &mut Words<'_>) -> Result<Call, Cause> {
     match name {
         "machine" => Ok(Call::Machine(read_opening(alloc, words)?)),
-        "reopen" => Ok(Call::Reopen(read_words(alloc, words)?)),
+        "reopen" => Ok(Call::Reopen(read_reopening_words(alloc, words)?)),
         "issue" | "attempt" | "deliver" | "evict" | "advance" => {
-            Ok(Call::Event(event_of(name, words)?))
+            Ok(Call::Event(read_event(name, words)?))
         }
-        "rounds" => Ok(Call::Drive(Policy::Rounds, words.small()?)),
-        "fair-rounds" => Ok(Call::Drive(Policy::FairRounds, words.small()?)),
+        "rounds" => Ok(Call::Drive(Policy::Rounds, words.next_small_number()?)),
+        "fair-rounds" => Ok(Call::Drive(Policy::FairRounds, words.next_small_number()?)),
         "seed" => {
-            let seed = words.number()?;
-            Ok(Call::Drive(Policy::Seed(seed), words.small()?))
+            let seed = words.next_number()?;
+            Ok(Call::Drive(Policy::Seed(seed), words.next_small_number()?))
         }
-        "made" => Ok(Call::Made(words.small()?)),
+        "made" => Ok(Call::Made(words.next_small_number()?)),
         "counts" => Ok(Call::Counts),
-        "order" => order(words),
-        _ => Ok(Call::Look(read_look(name, words)?)),
+        "order" => read_order_call(words),
+        _ => Ok(Call::Look(read_look_up(name, words)?)),
     }
 }
 
 /// Whether the machine is to keep lines in order, or the look-up whether it does.
-fn order(words: &mut Words<'_>) -> Result<Call, Cause> {
+fn read_order_call(words: &mut Words<'_>) -> Result<Call, Cause> {
     match words.next_word() {
         Some("keep") => Ok(Call::Keep(true)),
         Some("forget") => Ok(Call::Keep(false)),
@@ -235,13 +243,13 @@ fn order(words: &mut Words<'_>) -> Result<Call, Cause> {
 
 /// What a line asks for, for a machine with this many words in a line.
 pub(crate) fn read_call(alloc: Global, turn: &Turn<'_>, line_words: u32) -> Result<Call, Cause> {
-    let mut words = turn.words(line_words);
+    let mut words = turn.call_words(line_words);
     match words.next_word().unwrap_or("") {
-        "run" => Ok(Call::Run(events(alloc, turn, line_words)?)),
-        "program" => program(alloc, turn),
+        "run" => Ok(Call::Run(read_event_list(alloc, turn, line_words)?)),
+        "program" => read_program(alloc, turn),
         name => {
-            let call = call_of(alloc, name, &mut words)?;
-            words.end()?;
+            let call = read_named_call(alloc, name, &mut words)?;
+            words.expect_end()?;
             Ok(call)
         }
     }

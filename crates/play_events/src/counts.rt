@@ -2,7 +2,7 @@
 //! did.
 
 use crate::turns::Turns;
-use event_text::{Reply, kind_of, name_of_kind};
+use event_text::{Reply, message_kind_index, message_kind_name};
 use interleaving_core::{Answer, Event, Message, MsgNo, Node, Refusal, System};
 use physiological_order::{Memory, Op, Record};
 use schedules::Policy;
@@ -59,29 +59,29 @@ pub(crate) struct Counted {
     turns: Turns,
 }
 
-fn add(count: &mut u64) {
+fn increment_count(count: &mut u64) {
     *count = count.saturating_add(1);
 }
 
-fn core_of(node: Node) -> Option<u32> {
+fn core_of_node(node: Node) -> Option<u32> {
     match node {
         Node::Core(core) => Some(core),
         _ => None,
     }
 }
 
-fn bank_of(node: Node) -> Option<u32> {
+fn bank_of_node(node: Node) -> Option<u32> {
     match node {
         Node::Bank(bank) => Some(bank),
         _ => None,
     }
 }
 
-fn mark_of(message: &Message) -> Mark {
+fn mark_of_message(message: &Message) -> Mark {
     Mark {
-        kind: kind_of(&message.body),
-        core: core_of(message.from).or(core_of(message.to)),
-        bank: bank_of(message.from).or(bank_of(message.to)),
+        kind: message_kind_index(&message.body),
+        core: core_of_node(message.from).or(core_of_node(message.to)),
+        bank: bank_of_node(message.from).or(bank_of_node(message.to)),
     }
 }
 
@@ -91,7 +91,7 @@ impl Mail {
     };
 
     /// A message of this kind was sent, or has left the network.
-    fn take(&mut self, kind: usize, is_sent: bool) {
+    fn count_message_kind(&mut self, kind: usize, is_sent: bool) {
         let Some(counted) = self.kinds.get_mut(kind) else {
             return;
         };
@@ -103,11 +103,11 @@ impl Mail {
     }
 
     /// Writes the kinds of which some were sent, and how many were sent and delivered.
-    fn put(&self, out: &mut Reply) {
+    fn put_kind_counts(&self, out: &mut Reply) {
         for (kind, (sent, delivered)) in self.kinds.iter().enumerate() {
             if *sent > 0 {
-                out.named(name_of_kind(kind), *sent);
-                out.number(*delivered);
+                out.put_named_number(message_kind_name(kind), *sent);
+                out.put_number(*delivered);
             }
         }
     }
@@ -128,36 +128,36 @@ impl OfCore {
     };
 
     /// An operation is completed; `newest` is the greatest time of a write of its word so far.
-    fn complete(&mut self, record: &Record, newest: u64) {
+    fn count_operation(&mut self, record: &Record, newest: u64) {
         match record.op {
             Op::Load(_) => {
-                add(&mut self.loads);
+                increment_count(&mut self.loads);
                 if newest > record.ts {
-                    add(&mut self.stale);
+                    increment_count(&mut self.stale);
                 }
             }
-            Op::Store(_, _) => add(&mut self.stores),
-            Op::Swap(_, _) => add(&mut self.swaps),
+            Op::Store(_, _) => increment_count(&mut self.stores),
+            Op::Swap(_, _) => increment_count(&mut self.swaps),
         }
         if self.has_asked {
-            add(&mut self.misses);
+            increment_count(&mut self.misses);
         } else {
-            add(&mut self.hits);
+            increment_count(&mut self.hits);
         }
         self.has_asked = false;
         self.time = record.ts.max(self.time);
     }
 
-    fn put(&self, out: &mut Reply) {
-        out.named("loads", self.loads);
-        out.named("stores", self.stores);
-        out.named("swaps", self.swaps);
-        out.named("hits", self.hits);
-        out.named("misses", self.misses);
-        out.named("stale", self.stale);
-        out.named("evicted", self.evicted);
-        out.named("time", self.time);
-        self.mail.put(out);
+    fn put_core_counts(&self, out: &mut Reply) {
+        out.put_named_number("loads", self.loads);
+        out.put_named_number("stores", self.stores);
+        out.put_named_number("swaps", self.swaps);
+        out.put_named_number("hits", self.hits);
+        out.put_named_number("misses", self.misses);
+        out.put_named_number("stale", self.stale);
+        out.put_named_number("evicted", self.evicted);
+        out.put_named_number("time", self.time);
+        self.mail.put_kind_counts(out);
     }
 }
 
@@ -194,38 +194,38 @@ impl Counted {
     }
 
     /// Where the message of this number is counted, if it is in flight.
-    fn mark_at(&self, number: u64) -> Option<Mark> {
-        Some(mark_of(self.system.look(MsgNo(number))?))
+    fn mark_of_number(&self, number: u64) -> Option<Mark> {
+        Some(mark_of_message(self.system.look(MsgNo(number))?))
     }
 
     /// A message was sent, or has left the network.
-    fn take(&mut self, mark: Mark, is_sent: bool) {
+    fn count_message(&mut self, mark: Mark, is_sent: bool) {
         if let Some(core) = mark.core
             && let Some(of) = self.cores.get_mut(core as usize)
         {
-            of.mail.take(mark.kind, is_sent);
+            of.mail.count_message_kind(mark.kind, is_sent);
         }
         if let Some(bank) = mark.bank
             && let Some(of) = self.banks.get_mut(bank as usize)
         {
-            of.mail.take(mark.kind, is_sent);
+            of.mail.count_message_kind(mark.kind, is_sent);
         }
     }
 
-    fn complete(&mut self, record: &Record) -> Result<(), AllocError> {
+    fn count_record(&mut self, record: &Record) -> Result<(), AllocError> {
         let word = record.op.addr();
         let newest = self.written.get(word);
         if !matches!(record.op, Op::Load(_)) {
             self.written.set(word, record.ts.max(newest))?;
         }
         if let Some(of) = self.cores.get_mut(record.core as usize) {
-            of.complete(record, newest);
+            of.count_operation(record, newest);
         }
         Ok(())
     }
 
     /// The event of a core or a bank sent a request, or evicted a line.
-    fn note(&mut self, event: &Event) {
+    fn count_request_or_eviction(&mut self, event: &Event) {
         match *event {
             Event::Attempt(core) => {
                 if let Some(of) = self.cores.get_mut(core as usize) {
@@ -234,12 +234,12 @@ impl Counted {
             }
             Event::EvictCache(core, _) => {
                 if let Some(of) = self.cores.get_mut(core as usize) {
-                    add(&mut of.evicted);
+                    increment_count(&mut of.evicted);
                 }
             }
             Event::EvictBank(bank, _) => {
                 if let Some(of) = self.banks.get_mut(bank as usize) {
-                    add(&mut of.evicted);
+                    increment_count(&mut of.evicted);
                 }
             }
             _ => {}
@@ -247,54 +247,54 @@ impl Counted {
     }
 
     /// Makes an event, and counts its effects. An event sends one message at most.
-    fn make(&mut self, event: &Event) -> Result<(), AllocError> {
+    fn make_event(&mut self, event: &Event) -> Result<(), AllocError> {
         let _inside: Option<Op> = None;
         let delivered = match *event {
-            Event::Deliver(number) => self.mark_at(number.0),
+            Event::Deliver(number) => self.mark_of_number(number.0),
             _ => None,
         };
-        self.turns.begin(event);
+        self.turns.begin_event(event);
         let answer = self.system.step(*event);
-        self.turns.end(&self.system, event, &answer);
+        self.turns.end_event(&self.system, event, &answer);
         match answer {
-            Answer::Completed(record) => self.complete(&record)?,
-            Answer::Requested | Answer::Evicted => self.note(event),
+            Answer::Completed(record) => self.count_record(&record)?,
+            Answer::Requested | Answer::Evicted => self.count_request_or_eviction(event),
             Answer::Refused(Refusal::NoMemory) => return Err(AllocError),
             Answer::Delivered | Answer::Dropped => {
                 if let Some(mark) = delivered {
-                    self.take(mark, false);
+                    self.count_message(mark, false);
                 }
             }
             _ => {}
         }
-        if let Some(mark) = self.mark_at(self.next) {
-            self.take(mark, true);
+        if let Some(mark) = self.mark_of_number(self.next) {
+            self.count_message(mark, true);
             self.next = self.next.saturating_add(1);
         }
         Ok(())
     }
 
     /// Makes the events of the run.
-    pub(crate) fn run(&mut self, events: &[Event]) -> Result<(), AllocError> {
+    pub(crate) fn make_events(&mut self, events: &[Event]) -> Result<(), AllocError> {
         for event in events {
-            self.make(event)?;
+            self.make_event(event)?;
         }
         Ok(())
     }
 
     /// Writes the counts of the run.
-    pub(crate) fn put(&self, out: &mut Reply) {
+    pub(crate) fn put_run_counts(&self, out: &mut Reply) {
         for (core, of) in self.cores.iter().enumerate() {
-            out.named("core", core as u64);
-            of.put(out);
-            out.add("; ");
+            out.put_named_number("core", core as u64);
+            of.put_core_counts(out);
+            out.put_text("; ");
         }
         for (bank, of) in self.banks.iter().enumerate() {
-            out.named("bank", bank as u64);
-            out.named("evicted", of.evicted);
-            of.mail.put(out);
-            out.add("; ");
+            out.put_named_number("bank", bank as u64);
+            out.put_named_number("evicted", of.evicted);
+            of.mail.put_kind_counts(out);
+            out.put_text("; ");
         }
-        out.named("turns", self.turns.count);
+        out.put_named_number("turns", self.turns.count);
     }
 }

@@ -24,7 +24,7 @@ pub(crate) struct Drives {
 }
 
 /// The steps of a core's last program.
-fn steps_of(programs: &[(u32, Vec<Step>)], core: u32) -> &[Step] {
+fn last_steps_of_core(programs: &[(u32, Vec<Step>)], core: u32) -> &[Step] {
     for (of, steps) in programs.iter().rev() {
         if *of == core {
             return steps.as_slice();
@@ -34,20 +34,20 @@ fn steps_of(programs: &[(u32, Vec<Step>)], core: u32) -> &[Step] {
 }
 
 /// A program for each core.
-fn by_core<'a>(
+fn programs_by_core<'a>(
     alloc: Global,
     given: &'a [(u32, Vec<Step>)],
     cores: u32,
 ) -> Result<Vec<StepProgram<'a>>, AllocError> {
     let mut programs = Vec::new(alloc);
     for core in 0..cores {
-        programs.push(StepProgram::new(steps_of(given, core)))?;
+        programs.push(StepProgram::new(last_steps_of_core(given, core)))?;
     }
     Ok(programs)
 }
 
 /// How a drive ended, before the number of its events.
-fn name_of(end: End) -> &'static str {
+fn name_of_end(end: End) -> &'static str {
     match end {
         End::AllDone => "all-done,",
         End::Stalled => "stalled,",
@@ -58,7 +58,7 @@ fn name_of(end: End) -> &'static str {
 }
 
 /// Drives the machine by these programs, one for each core.
-fn driven(
+fn drive_by_policy(
     alloc: Global,
     system: &mut System,
     programs: &mut [StepProgram<'_>],
@@ -89,48 +89,48 @@ impl Drives {
     }
 
     /// Gives a core its program.
-    pub(crate) fn give(&mut self, core: u32, steps: Vec<Step>, out: &mut Reply) {
+    pub(crate) fn give_program(&mut self, core: u32, steps: Vec<Step>, out: &mut Reply) {
         let _inside: Option<Op> = None;
         match self.programs.push((core, steps)) {
-            Ok(()) => out.word("given"),
+            Ok(()) => out.put_word("given"),
             Err(_) => out.note_no_memory(),
         }
     }
 
     /// Drives the machine, if memory for programs can be allocated; how that ended, and how many events were made.
-    fn run(
+    fn run_programs(
         &mut self,
         system: &mut System,
         policy: Policy,
         limit: u32,
         out: &mut Reply,
     ) -> Result<(), AllocError> {
-        let mut programs = by_core(self.alloc, self.programs.as_slice(), system.cores())?;
+        let mut programs = programs_by_core(self.alloc, self.programs.as_slice(), system.cores())?;
         let programs = programs.as_mut_slice();
-        let Some(run) = driven(self.alloc, system, programs, policy, limit) else {
+        let Some(run) = drive_by_policy(self.alloc, system, programs, policy, limit) else {
             return Ok(());
         };
-        out.word(name_of(run.end));
-        out.number(run.events.len() as u64);
-        out.word("events");
+        out.put_word(name_of_end(run.end));
+        out.put_number(run.events.len() as u64);
+        out.put_word("events");
         self.events = run.events;
         self.at = 0;
         Ok(())
     }
 
     /// A machine opens.
-    pub(crate) fn begin(&mut self) {
+    pub(crate) fn note_opening(&mut self) {
         self.is_new = true;
         self.counted = None;
     }
 
     /// The machine gets events.
-    pub(crate) fn go_on(&mut self) {
+    pub(crate) fn note_events(&mut self) {
         self.is_new = false;
     }
 
     /// Drives the machine, and writes how that ended, and how many events were made.
-    pub(crate) fn drive(
+    pub(crate) fn drive_machine(
         &mut self,
         system: &mut System,
         policy: Policy,
@@ -139,32 +139,32 @@ impl Drives {
     ) {
         self.counted = if self.is_new { Some(policy) } else { None };
         self.is_new = false;
-        if self.run(system, policy, limit, out).is_err() {
+        if self.run_programs(system, policy, limit, out).is_err() {
             out.note_no_memory();
         }
     }
 
     /// The next events of the last drive, at most this many.
-    pub(crate) fn look(&mut self, count: u32, out: &mut Reply) {
+    pub(crate) fn put_next_events(&mut self, count: u32, out: &mut Reply) {
         for _ in 0..count {
             let Some(event) = self.events.get(self.at) else {
                 break;
             };
-            out.next_part();
+            out.begin_part();
             put_event(event, out);
             self.at = self.at.saturating_add(1);
         }
-        out.or("end");
+        out.put_word_if_empty("end");
     }
 
     /// The counts of the last drive, made once more on this machine, which has just opened; nothing if its own had had
     /// events before.
-    pub(crate) fn counts(&self, system: System) -> Result<Option<Counted>, AllocError> {
+    pub(crate) fn count_last_drive(&self, system: System) -> Result<Option<Counted>, AllocError> {
         let Some(policy) = self.counted else {
             return Ok(None);
         };
         let mut counted = Counted::new(self.alloc, system, policy)?;
-        counted.run(self.events.as_slice())?;
+        counted.make_events(self.events.as_slice())?;
         Ok(Some(counted))
     }
 }

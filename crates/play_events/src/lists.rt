@@ -16,17 +16,17 @@ enum Found {
 }
 
 /// Writes the lines.
-fn put_found(found: Result<Found, AllocError>, out: &mut Reply) {
+fn put_compared_lines(found: Result<Found, AllocError>, out: &mut Reply) {
     match found {
-        Ok(Found::Same(lines)) => out.lines(lines.as_slice()),
-        Ok(Found::Differ) => out.word(DIFFER),
-        Ok(Found::NoMemory) => out.word(NO_MEMORY),
+        Ok(Found::Same(lines)) => out.put_lines(lines.as_slice()),
+        Ok(Found::Differ) => out.put_word(DIFFER),
+        Ok(Found::NoMemory) => out.put_word(NO_MEMORY),
         Err(_) => out.note_no_memory(),
     }
 }
 
 /// Lines that were found, if they are these.
-fn same(found: Vec<LineNo>, lines: &[LineNo]) -> Found {
+fn compare_lines(found: Vec<LineNo>, lines: &[LineNo]) -> Found {
     if found.as_slice() == lines {
         Found::Same(found)
     } else {
@@ -35,7 +35,7 @@ fn same(found: Vec<LineNo>, lines: &[LineNo]) -> Found {
 }
 
 /// The lines of a list, but those of the core's open operation.
-fn without_open(
+fn lines_without_open_op(
     alloc: Global,
     system: &System,
     core: u32,
@@ -55,11 +55,11 @@ fn without_open(
 }
 
 /// The copies that may be evicted: one by one, and as all copies but that of the open operation.
-fn free(alloc: Global, system: &System, core: u32) -> Result<Found, AllocError> {
+fn evictable_copies(alloc: Global, system: &System, core: u32) -> Result<Found, AllocError> {
     let Ok(copies) = system.copies(core) else {
         return Ok(Found::NoMemory);
     };
-    let wanted = without_open(alloc, system, core, &copies)?;
+    let wanted = lines_without_open_op(alloc, system, core, &copies)?;
     let mut free = Vec::new(alloc);
     for at in 0..system.free_copies(core) {
         let Ok(line) = system.free_copy(core, at) else {
@@ -67,11 +67,11 @@ fn free(alloc: Global, system: &System, core: u32) -> Result<Found, AllocError> 
         };
         free.push(line)?;
     }
-    Ok(same(free, &wanted))
+    Ok(compare_lines(free, &wanted))
 }
 
 /// A bank's settled entries: one by one, and at once.
-fn entries(alloc: Global, system: &System, bank: u32) -> Result<Found, AllocError> {
+fn settled_entries(alloc: Global, system: &System, bank: u32) -> Result<Found, AllocError> {
     let Ok(wanted) = system.entries(bank) else {
         return Ok(Found::NoMemory);
     };
@@ -82,24 +82,24 @@ fn entries(alloc: Global, system: &System, bank: u32) -> Result<Found, AllocErro
         };
         entries.push(line)?;
     }
-    Ok(same(entries, &wanted))
+    Ok(compare_lines(entries, &wanted))
 }
 
 /// Writes the copies of a core that may be evicted.
-pub(crate) fn put_free(alloc: Global, system: &System, core: u32, out: &mut Reply) {
-    put_found(free(alloc, system, core), out);
+pub(crate) fn put_evictable_copies(alloc: Global, system: &System, core: u32, out: &mut Reply) {
+    put_compared_lines(evictable_copies(alloc, system, core), out);
 }
 
 /// Writes the settled entries of a bank.
-pub(crate) fn put_entries(alloc: Global, system: &System, bank: u32, out: &mut Reply) {
-    put_found(entries(alloc, system, bank), out);
+pub(crate) fn put_settled_entries(alloc: Global, system: &System, bank: u32, out: &mut Reply) {
+    put_compared_lines(settled_entries(alloc, system, bank), out);
 }
 
 /// Writes the lines of a core's copies.
-pub(crate) fn put_copies(system: &System, core: u32, out: &mut Reply) {
+pub(crate) fn put_lines_of_copies(system: &System, core: u32, out: &mut Reply) {
     match system.copies(core) {
-        Ok(lines) => out.lines(&lines),
-        Err(_) => out.word(NO_MEMORY),
+        Ok(lines) => out.put_lines(&lines),
+        Err(_) => out.put_word(NO_MEMORY),
     }
 }
 
@@ -107,7 +107,7 @@ pub(crate) fn put_copies(system: &System, core: u32, out: &mut Reply) {
 const MOST: u32 = 4096;
 
 /// Whether the message at a place is the one that is listed there.
-fn is_listed(system: &System, messages: &[MsgNo], at: u32) -> bool {
+fn is_message_listed(system: &System, messages: &[MsgNo], at: u32) -> bool {
     match (system.message(at), messages.get(at as usize)) {
         (Some(message), Some(listed)) => message == *listed,
         _ => false,
@@ -115,21 +115,21 @@ fn is_listed(system: &System, messages: &[MsgNo], at: u32) -> bool {
 }
 
 /// Whether the first messages one by one, and the last, are those of a list, and there is none past it.
-fn are_one_by_one(system: &System, messages: &[MsgNo]) -> bool {
+fn are_messages_listed(system: &System, messages: &[MsgNo]) -> bool {
     let count = system.messages();
     if count as usize != messages.len() || system.message(count).is_some() {
         return false;
     }
     for at in 0..count.min(MOST) {
-        if !is_listed(system, messages, at) {
+        if !is_message_listed(system, messages, at) {
             return false;
         }
     }
-    count == 0 || is_listed(system, messages, count - 1)
+    count == 0 || is_message_listed(system, messages, count - 1)
 }
 
 /// Whether a list that has a number already is filled with these, and then once more without another allocation.
-fn are_filled(
+fn is_list_refilled(
     system: &System,
     list: &mut Vec<MsgNo>,
     messages: &[MsgNo],
@@ -142,7 +142,7 @@ fn are_filled(
 }
 
 /// Writes the messages in flight: at once, one by one, and in a list that is there already.
-pub(crate) fn put_flight(
+pub(crate) fn put_messages_in_flight(
     alloc: Global,
     system: &System,
     out: &mut Reply,
@@ -150,24 +150,24 @@ pub(crate) fn put_flight(
     let mut list = Vec::new(alloc);
     list.push(MsgNo(77))?;
     let Ok(messages) = system.in_flight() else {
-        out.word(NO_MEMORY);
+        out.put_word(NO_MEMORY);
         return Ok(());
     };
-    let Ok(are) = are_filled(system, &mut list, &messages) else {
-        out.word(NO_MEMORY);
+    let Ok(are) = is_list_refilled(system, &mut list, &messages) else {
+        out.put_word(NO_MEMORY);
         return Ok(());
     };
-    if are && are_one_by_one(system, &messages) {
-        put_messages(&messages, out);
+    if are && are_messages_listed(system, &messages) {
+        put_message_numbers(&messages, out);
     } else {
-        out.word(DIFFER);
+        out.put_word(DIFFER);
     }
     Ok(())
 }
 
-fn put_messages(messages: &[MsgNo], out: &mut Reply) {
+fn put_message_numbers(messages: &[MsgNo], out: &mut Reply) {
     for message in messages {
-        out.message(message.0);
+        out.put_message_number(message.0);
     }
-    out.or("none");
+    out.put_word_if_empty("none");
 }

@@ -13,7 +13,9 @@ use std::io::Write;
 pub(crate) struct EventPlayer;
 
 /// The next line. It was read before, so only an allocation can fail.
-pub(crate) fn next<'a>(cursor: &mut Cursor<'a>) -> Result<Option<Turn<'a>>, AllocError> {
+pub(crate) fn next_readable_turn<'a>(
+    cursor: &mut Cursor<'a>,
+) -> Result<Option<Turn<'a>>, AllocError> {
     match cursor.next_turn() {
         Ok(turn) => Ok(turn),
         Err(_) => Err(AllocError),
@@ -21,7 +23,11 @@ pub(crate) fn next<'a>(cursor: &mut Cursor<'a>) -> Result<Option<Turn<'a>>, Allo
 }
 
 /// What a line asks for that was read before.
-pub(crate) fn call_of(alloc: Global, turn: &Turn<'_>, line_words: u32) -> Result<Call, AllocError> {
+pub(crate) fn read_call_again(
+    alloc: Global,
+    turn: &Turn<'_>,
+    line_words: u32,
+) -> Result<Call, AllocError> {
     match read_call(alloc, turn, line_words) {
         Ok(call) => Ok(call),
         Err(_) => Err(AllocError),
@@ -36,8 +42,8 @@ pub(crate) fn play_turn(
 ) -> Result<(), AllocError> {
     reply.clear();
     reply.line_words = played.line_words();
-    let call = call_of(played.alloc, turn, reply.line_words)?;
-    played.play(call, reply);
+    let call = read_call_again(played.alloc, turn, reply.line_words)?;
+    played.play_call(call, reply);
     Ok(())
 }
 
@@ -51,7 +57,7 @@ fn play_line<W: Write + Drop>(
     out: &mut W,
 ) -> io::Result<()> {
     play_turn(played, turn, reply)?;
-    if page.how.again && reply.told()? == NO_MEMORY {
+    if page.how.again && reply.whole_text()? == NO_MEMORY {
         if turn.wanted.is_none() {
             page.report_unasked(turn, NO_MEMORY, out)?;
         }
@@ -71,20 +77,20 @@ fn answer_line<D: Dialog>(
         Ok(call) => {
             reply.clear();
             reply.line_words = played.line_words();
-            played.play(call, reply);
+            played.play_call(call, reply);
             dialog.take_answer(reply)
         }
-        Err(cause) => dialog.refuse(cause),
+        Err(cause) => dialog.refuse_line(cause),
     }
 }
 
 impl Player for EventPlayer {
-    fn read(&self, alloc: Global, turn: &Turn<'_>) -> Result<(), Cause> {
+    fn check_line(&self, alloc: Global, turn: &Turn<'_>) -> Result<(), Cause> {
         let _call = read_call(alloc, turn, 1)?;
         Ok(())
     }
 
-    fn play<W: Write + Drop>(
+    fn play_readable_example<W: Write + Drop>(
         &self,
         alloc: Global,
         example: &Example<'_>,
@@ -95,7 +101,7 @@ impl Player for EventPlayer {
         let mut reply = Reply::new(alloc);
         let mut cursor = example.cursor();
         for _ in 0..u64::MAX {
-            let Some(turn) = next(&mut cursor)? else {
+            let Some(turn) = next_readable_turn(&mut cursor)? else {
                 break;
             };
             play_line(&mut played, &turn, page, &mut reply, out)?;
@@ -106,11 +112,11 @@ impl Player for EventPlayer {
         Ok(())
     }
 
-    fn answer<D: Dialog>(&self, alloc: Global, dialog: &mut D) -> io::Result<()> {
+    fn answer_lines<D: Dialog>(&self, alloc: Global, dialog: &mut D) -> io::Result<()> {
         let mut played = Played::new(alloc);
         let mut reply = Reply::new(alloc);
         for _ in 0..u64::MAX {
-            let Some(turn) = dialog.turn() else {
+            let Some(turn) = dialog.current_turn() else {
                 break;
             };
             let call = read_call(alloc, &turn, played.line_words());
@@ -119,7 +125,7 @@ impl Player for EventPlayer {
         Ok(())
     }
 
-    fn has_ways(&self) -> bool {
+    fn has_other_ways(&self) -> bool {
         true
     }
 }

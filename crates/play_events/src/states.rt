@@ -1,130 +1,136 @@
 //! All of a machine in one line.
 
-use crate::looks::{put_copy_of, put_open_of};
+use crate::looks::{put_copy_of_core, put_open_op_of_core};
 use event_text::{
-    NO_MEMORY, Reply, put_counts, put_entry, put_message_or_none, put_values, yes_or_no,
+    NO_MEMORY, Reply, put_entry, put_line_words, put_message_counts, put_message_or_none, yes_or_no,
 };
 use interleaving_core::{LineNo, MsgNo, System};
 use network::Words;
 use physiological_order::WordAddr;
 
 /// How many lines these words take.
-fn lines_of(system: &System, words: u32) -> u64 {
+fn count_lines_of_words(system: &System, words: u32) -> u64 {
     u64::from(words).div_ceil(u64::from(system.line_words()))
 }
 
 /// Writes the core's copies, and the victim for each line that has no place.
-fn put_lines_of(system: &System, core: u32, copies: &[LineNo], words: u32, out: &mut Reply) {
+fn put_copies_and_victims(
+    system: &System,
+    core: u32,
+    copies: &[LineNo],
+    words: u32,
+    out: &mut Reply,
+) {
     for line in copies {
-        out.add("; copy");
-        out.line(*line);
-        put_copy_of(system, core, *line, out);
+        out.put_text("; copy");
+        out.put_line_address(*line);
+        put_copy_of_core(system, core, *line, out);
     }
-    for line in 0..lines_of(system, words) {
+    for line in 0..count_lines_of_words(system, words) {
         if let Some(victim) = system.victim(core, LineNo(line)) {
-            out.add("; victim");
-            out.line(LineNo(line));
-            out.line(victim);
+            out.put_text("; victim");
+            out.put_line_address(LineNo(line));
+            out.put_line_address(victim);
         }
     }
 }
 
-fn put_core(system: &System, number: u32, copies: &[LineNo], words: u32, out: &mut Reply) {
+fn put_core_state(system: &System, number: u32, copies: &[LineNo], words: u32, out: &mut Reply) {
     let Some(core) = system.core(number) else {
         return;
     };
-    out.named("core", u64::from(number));
-    out.named("time", core.pts());
-    out.named("issued", u64::from(core.issued()));
-    out.word("open");
-    put_open_of(system, number, out);
-    put_lines_of(system, number, copies, words, out);
-    out.add("; ");
+    out.put_named_number("core", u64::from(number));
+    out.put_named_number("time", core.pts());
+    out.put_named_number("issued", u64::from(core.issued()));
+    out.put_word("open");
+    put_open_op_of_core(system, number, out);
+    put_copies_and_victims(system, number, copies, words, out);
+    out.put_text("; ");
 }
 
 /// Writes the words that DRAM has of each line, except lines whose words are all 0.
-fn put_drams(system: &System, bank: u32, words: u32, out: &mut Reply) {
+fn put_dram_lines(system: &System, bank: u32, words: u32, out: &mut Reply) {
     let Some(dram) = system.dram(bank) else {
         return;
     };
-    for line in 0..lines_of(system, words) {
+    for line in 0..count_lines_of_words(system, words) {
         let values = dram.load(LineNo(line));
         if values != Words::zeros() {
-            out.word("dram");
-            out.line(LineNo(line));
-            put_values(&values, out);
-            out.add("; ");
+            out.put_word("dram");
+            out.put_line_address(LineNo(line));
+            put_line_words(&values, out);
+            out.put_text("; ");
         }
     }
 }
 
-fn put_bank(system: &System, number: u32, words: u32, out: &mut Reply) {
+fn put_bank_state(system: &System, number: u32, words: u32, out: &mut Reply) {
     let Some(bank) = system.bank(number) else {
         return;
     };
-    out.named("bank", u64::from(number));
-    out.named("time", bank.memory_time());
-    out.add("; ");
-    for line in 0..lines_of(system, words) {
+    out.put_named_number("bank", u64::from(number));
+    out.put_named_number("time", bank.memory_time());
+    out.put_text("; ");
+    for line in 0..count_lines_of_words(system, words) {
         let entry = bank.entry(LineNo(line));
         if entry.is_some() {
-            out.word("entry");
-            out.line(LineNo(line));
+            out.put_word("entry");
+            out.put_line_address(LineNo(line));
             put_entry(entry, out);
-            out.add("; ");
+            out.put_text("; ");
         }
     }
-    put_drams(system, number, words, out);
+    put_dram_lines(system, number, words, out);
 }
 
-fn put_messages(system: &System, messages: &[MsgNo], out: &mut Reply) {
+fn put_messages_and_room(system: &System, messages: &[MsgNo], out: &mut Reply) {
     for message in messages {
-        out.message(message.0);
+        out.put_message_number(message.0);
         put_message_or_none(system.look(*message), out);
         if let Some((_, line)) = system.make_room(*message) {
-            out.word("room");
-            out.line(line);
+            out.put_word("room");
+            out.put_line_address(line);
         }
-        out.add("; ");
+        out.put_text("; ");
     }
 }
 
 /// Writes the counts, the values of words, the owners of their lines, and whether the machine has stopped.
-fn put_sums(system: &System, words: u32, out: &mut Reply) {
-    out.word("sent");
-    put_counts(&system.counts(), out);
-    out.add("; words");
+fn put_machine_totals(system: &System, words: u32, out: &mut Reply) {
+    out.put_word("sent");
+    put_message_counts(&system.counts(), out);
+    out.put_text("; words");
     for word in 0..words {
-        out.number(system.coherent(WordAddr::at(u64::from(word))));
+        out.put_number(system.coherent(WordAddr::at(u64::from(word))));
     }
-    out.add("; owners");
-    for line in 0..lines_of(system, words) {
-        out.number(u64::from(system.owners(LineNo(line))));
+    out.put_text("; owners");
+    for line in 0..count_lines_of_words(system, words) {
+        out.put_number(u64::from(system.owners(LineNo(line))));
     }
-    out.add("; stopped");
-    out.word(yes_or_no(system.is_stopped()));
+    out.put_text("; stopped");
+    out.put_word(yes_or_no(system.is_stopped()));
 }
 
 /// Writes that memory for a list of the answer can't be allocated.
 fn put_no_memory(out: &mut Reply) {
     out.clear();
-    out.word(NO_MEMORY);
+    out.put_word(NO_MEMORY);
 }
 
 /// Writes all of the machine, with the values of this many words.
-pub(crate) fn put_state(system: &System, words: u32, out: &mut Reply) {
+pub(crate) fn put_machine_state(system: &System, words: u32, out: &mut Reply) {
     for core in 0..system.cores() {
         let Ok(copies) = system.copies(core) else {
             return put_no_memory(out);
         };
-        put_core(system, core, &copies, words, out);
+        put_core_state(system, core, &copies, words, out);
     }
     for bank in 0..system.banks() {
-        put_bank(system, bank, words, out);
+        put_bank_state(system, bank, words, out);
     }
     let Ok(messages) = system.in_flight() else {
         return put_no_memory(out);
     };
-    put_messages(system, &messages, out);
-    put_sums(system, words, out);
+    put_messages_and_room(system, &messages, out);
+    put_machine_totals(system, words, out);
 }

@@ -20,7 +20,7 @@ pub(crate) struct Turns {
 const BEHIND: u32 = u32::MAX;
 
 /// The place of an event in a round.
-fn place_of(event: &Event) -> u32 {
+fn place_in_round(event: &Event) -> u32 {
     match *event {
         Event::Issue(core, _)
         | Event::Attempt(core)
@@ -43,14 +43,14 @@ impl Turns {
     }
 
     /// Whether an event at this place goes on with the round: cores come in rising order, and then the deliveries.
-    fn goes_on(&self, place: u32) -> bool {
+    fn goes_on_in_round(&self, place: u32) -> bool {
         place > self.at || place == BEHIND || place == self.at && self.tries
     }
 
     /// An event comes: it begins a turn, or goes on with the last one.
-    pub(crate) fn begin(&mut self, event: &Event) {
-        let place = place_of(event);
-        if !self.evicts && !(self.by_rounds && self.goes_on(place)) {
+    pub(crate) fn begin_event(&mut self, event: &Event) {
+        let place = place_in_round(event);
+        if !self.evicts && !(self.by_rounds && self.goes_on_in_round(place)) {
             self.count = self.count.saturating_add(1);
         }
         self.at = place;
@@ -58,7 +58,7 @@ impl Turns {
 
     /// The machine answered the event, and is now as given. An eviction of a copy makes a place if there was none for
     /// the line of an attempt. An eviction of a bank's line does so for a message that was held, if there is one.
-    pub(crate) fn end(&mut self, system: &System, event: &Event, answer: &Answer) {
+    pub(crate) fn end_event(&mut self, system: &System, event: &Event, answer: &Answer) {
         self.evicts = match *answer {
             Answer::Refused(Refusal::NoRoom) => true,
             Answer::Held => match *event {

@@ -2,9 +2,9 @@
 //! The answers must be those that came the first time.
 
 use crate::calls::Call;
-use crate::machines::{Played, opened, put_answers};
-use crate::player::{call_of, next, play_turn};
-use event_text::{Example, Page, Reply, memory_of};
+use crate::machines::{Played, open_machine, put_answers};
+use crate::player::{next_readable_turn, play_turn, read_call_again};
+use event_text::{Example, Page, Reply, opening_memory_of};
 use interleaving_core::{Answer, Config, Event, System};
 use physiological_order::{Op, WordAddr};
 use std::alloc::{AllocError, Global};
@@ -30,7 +30,7 @@ struct Listed {
 
 impl Listed {
     /// Takes in the event of a line, or its events.
-    fn add(&mut self, at: usize, events: &[Event]) -> io::Result<()> {
+    fn add_events(&mut self, at: usize, events: &[Event]) -> io::Result<()> {
         let _inside: Option<Op> = None;
         for event in events {
             self.events.push(*event)?;
@@ -40,15 +40,15 @@ impl Listed {
     }
 
     /// Takes in the line at an index.
-    fn take(&mut self, at: usize, call: &Call) -> io::Result<()> {
+    fn add_call(&mut self, at: usize, call: &Call) -> io::Result<()> {
         match call {
             Call::Machine(opening) => {
                 self.is_plain = self.is_plain && self.config.is_none();
                 self.config = Some(opening.config);
                 Ok(())
             }
-            Call::Event(event) => self.add(at, &[*event]),
-            Call::Run(events) => self.add(at, events.as_slice()),
+            Call::Event(event) => self.add_events(at, &[*event]),
+            Call::Run(events) => self.add_events(at, events.as_slice()),
             Call::Reopen(_) | Call::Drive(_, _) => {
                 self.is_plain = false;
                 Ok(())
@@ -59,7 +59,11 @@ impl Listed {
 }
 
 /// The events of an example.
-fn events_of(alloc: Global, example: &Example<'_>, line_words: u32) -> io::Result<Listed> {
+fn list_example_events(
+    alloc: Global,
+    example: &Example<'_>,
+    line_words: u32,
+) -> io::Result<Listed> {
     let mut listed = Listed {
         config: None,
         events: Vec::new(alloc),
@@ -68,17 +72,17 @@ fn events_of(alloc: Global, example: &Example<'_>, line_words: u32) -> io::Resul
     };
     let mut cursor = example.cursor();
     for at in 0..usize::MAX {
-        let Some(turn) = next(&mut cursor)? else {
+        let Some(turn) = next_readable_turn(&mut cursor)? else {
             break;
         };
-        let call = call_of(alloc, &turn, line_words)?;
-        listed.take(at, &call)?;
+        let call = read_call_again(alloc, &turn, line_words)?;
+        listed.add_call(at, &call)?;
     }
     Ok(listed)
 }
 
 /// The memory that no example opens with.
-fn other_words(alloc: Global) -> io::Result<Vec<(WordAddr, u64)>> {
+fn other_opening_words(alloc: Global) -> io::Result<Vec<(WordAddr, u64)>> {
     let mut words = Vec::new(alloc);
     for (word, value) in OTHER_WORDS {
         words.push((WordAddr::at(word), value))?;
@@ -87,66 +91,66 @@ fn other_words(alloc: Global) -> io::Result<Vec<(WordAddr, u64)>> {
 }
 
 /// Opens the machine again with these words.
-fn reopen(played: &mut Played, words: &[(WordAddr, u64)]) -> io::Result<()> {
-    let memory = memory_of(played.alloc, words)?;
-    if let Some(reopened) = played.reopen(memory) {
+fn reopen_with_words(played: &mut Played, words: &[(WordAddr, u64)]) -> io::Result<()> {
+    let memory = opening_memory_of(played.alloc, words)?;
+    if let Some(reopened) = played.reopen_machine(memory) {
         reopened?;
     }
     Ok(())
 }
 
 /// Writes what must be so of a machine that was opened again with the other memory.
-fn put_opened(system: &System, out: &mut Reply) {
-    out.named("records", system.records().len() as u64);
-    out.named("messages", u64::from(system.messages()));
-    out.word("words");
+fn put_reopened_machine(system: &System, out: &mut Reply) {
+    out.put_named_number("records", system.records().len() as u64);
+    out.put_named_number("messages", u64::from(system.messages()));
+    out.put_word("words");
     for (word, _) in OTHER_WORDS {
-        out.number(system.coherent(WordAddr::at(word)));
+        out.put_number(system.coherent(WordAddr::at(word)));
     }
 }
 
 /// Opens the machine with the other memory, compares what it then has, and opens it with its own.
-fn restore<W: Write + Drop>(
+fn compare_reopened_machine<W: Write + Drop>(
     played: &mut Played,
     page: &mut Page<'_>,
     reply: &mut Reply,
     out: &mut W,
 ) -> io::Result<()> {
     let alloc = played.alloc;
-    reopen(played, other_words(alloc)?.as_slice())?;
+    reopen_with_words(played, other_opening_words(alloc)?.as_slice())?;
     reply.clear();
     if let Some(system) = &played.system {
-        put_opened(system, reply);
+        put_reopened_machine(system, reply);
     }
     page.compare_opening(AS_OPENED, reply, "opened again", out)?;
     let words = Vec::from_slice(alloc, played.words.as_slice())?;
-    reopen(played, words.as_slice())
+    reopen_with_words(played, words.as_slice())
 }
 
 /// Plays an example on its machine, opened again.
-fn play_again<W: Write + Drop>(
+fn play_on_reopened_machine<W: Write + Drop>(
     played: &mut Played,
     example: &Example<'_>,
     page: &mut Page<'_>,
     out: &mut W,
 ) -> io::Result<()> {
     let mut reply = Reply::new(played.alloc);
-    restore(played, page, &mut reply, out)?;
+    compare_reopened_machine(played, page, &mut reply, out)?;
     let mut cursor = example.cursor();
     for at in 0..usize::MAX {
-        let Some(turn) = next(&mut cursor)? else {
+        let Some(turn) = next_readable_turn(&mut cursor)? else {
             break;
         };
-        if turn.name() != "machine" {
+        if turn.call_name() != "machine" {
             play_turn(played, &turn, &mut reply)?;
-            page.compare(at, &reply, "opened again", out)?;
+            page.compare_answer(at, &reply, "opened again", out)?;
         }
     }
     Ok(())
 }
 
 /// Compares the answers to the events of an example as one list with those that came line by line.
-fn compare_list<W: Write + Drop>(
+fn compare_list_answers<W: Write + Drop>(
     answers: &[Answer],
     listed: &Listed,
     page: &mut Page<'_>,
@@ -154,8 +158,8 @@ fn compare_list<W: Write + Drop>(
     out: &mut W,
 ) -> io::Result<()> {
     if answers.len() != listed.events.len() {
-        reply.word("another number of answers");
-        return page.compare(0, reply, "as one list", out);
+        reply.put_word("another number of answers");
+        return page.compare_answer(0, reply, "as one list", out);
     }
     let mut from = 0;
     for (at, to) in &listed.lines {
@@ -165,13 +169,13 @@ fn compare_list<W: Write + Drop>(
         from = *to;
         reply.clear();
         put_answers(part, reply);
-        page.compare(*at, reply, "as one list", out)?;
+        page.compare_answer(*at, reply, "as one list", out)?;
     }
     Ok(())
 }
 
 /// Plays the events of an example as one list on a new machine.
-fn play_list<W: Write + Drop>(
+fn play_as_one_list<W: Write + Drop>(
     alloc: Global,
     system: &mut System,
     listed: &Listed,
@@ -179,7 +183,7 @@ fn play_list<W: Write + Drop>(
     out: &mut W,
 ) -> io::Result<()> {
     let answers = system.run(listed.events.as_slice())?;
-    compare_list(
+    compare_list_answers(
         answers.as_slice(),
         listed,
         page,
@@ -196,17 +200,17 @@ pub(crate) fn play_other_ways<W: Write + Drop>(
     out: &mut W,
 ) -> io::Result<()> {
     let alloc = played.alloc;
-    let listed = events_of(alloc, example, played.line_words())?;
+    let listed = list_example_events(alloc, example, played.line_words())?;
     let Some(config) = listed.config else {
         return Ok(());
     };
     if !listed.is_plain || played.system.is_none() {
         return Ok(());
     }
-    let anew = opened(alloc, config, played.words.as_slice());
-    play_again(played, example, page, out)?;
+    let anew = open_machine(alloc, config, played.words.as_slice());
+    play_on_reopened_machine(played, example, page, out)?;
     match anew {
-        Ok(mut system) => play_list(alloc, &mut system, &listed, page, out),
+        Ok(mut system) => play_as_one_list(alloc, &mut system, &listed, page, out),
         Err(_) => Err(io::Error::from(AllocError)),
     }
 }

@@ -23,14 +23,14 @@ pub(crate) enum Says {
 }
 
 /// What a call answers that has one answer if it isn't refused.
-pub(crate) fn done(answer: Answer, came: Result<(), Refusal>) -> Says {
+pub(crate) fn says_unless_refused(answer: Answer, came: Result<(), Refusal>) -> Says {
     match came {
         Ok(()) => Says::Answers(answer),
         Err(refusal) => Says::Answers(Answer::Refused(refusal)),
     }
 }
 
-pub(crate) fn served(came: Result<Served, Refusal>) -> Says {
+pub(crate) fn says_of_served(came: Result<Served, Refusal>) -> Says {
     let answer = match came {
         Ok(Served::Delivered) => Answer::Delivered,
         Ok(Served::Dropped) => Answer::Dropped,
@@ -42,14 +42,14 @@ pub(crate) fn served(came: Result<Served, Refusal>) -> Says {
     Says::Answers(answer)
 }
 
-pub(crate) fn turned(came: Result<Turn, Refusal>) -> Says {
+pub(crate) fn says_of_turn(came: Result<Turn, Refusal>) -> Says {
     match came {
         Ok(turn) => Says::Turns(turn),
         Err(refusal) => Says::Answers(Answer::Refused(refusal)),
     }
 }
 
-pub(crate) fn evicted(came: Result<Eviction, Refusal>) -> Says {
+pub(crate) fn says_of_eviction(came: Result<Eviction, Refusal>) -> Says {
     let answer = match came {
         Ok(Eviction::Evicted) => Answer::Evicted,
         Ok(Eviction::Recalled) => Answer::Recalled,
@@ -58,7 +58,7 @@ pub(crate) fn evicted(came: Result<Eviction, Refusal>) -> Says {
     Says::Answers(answer)
 }
 
-fn name_of(served: &Served) -> &'static str {
+fn name_of_served(served: &Served) -> &'static str {
     match served {
         Served::Delivered => "delivered",
         Served::Dropped => "dropped",
@@ -69,18 +69,18 @@ fn name_of(served: &Served) -> &'static str {
 }
 
 /// Writes what a call answered.
-pub(crate) fn put_says(says: &Says, out: &mut Reply) {
+pub(crate) fn put_call_answer(says: &Says, out: &mut Reply) {
     match says {
         Says::Answers(answer) => put_answer(answer, out),
         Says::Turns(turn) => {
-            out.number(u64::from(turn.put));
-            out.word("put,");
-            out.word(name_of(&turn.served));
+            out.put_number(u64::from(turn.put));
+            out.put_word("put,");
+            out.put_word(name_of_served(&turn.served));
         }
-        Says::Puts(true) => out.word("put"),
-        Says::Takes(Take::Taken) => out.word("taken"),
-        Says::Takes(Take::HandFull) => out.word("hand full"),
-        Says::Puts(false) | Says::Takes(Take::Nothing) | Says::Nothing => out.word("nothing"),
-        Says::NoSeat => out.word(NO_SEAT),
+        Says::Puts(true) => out.put_word("put"),
+        Says::Takes(Take::Taken) => out.put_word("taken"),
+        Says::Takes(Take::HandFull) => out.put_word("hand full"),
+        Says::Puts(false) | Says::Takes(Take::Nothing) | Says::Nothing => out.put_word("nothing"),
+        Says::NoSeat => out.put_word(NO_SEAT),
     }
 }

@@ -5,9 +5,9 @@ ghost use Rattle.mailboxes.specs.Seats.{AllBankSeats, AllCoreSeats};
 
 use crate::calls::Call;
 use crate::play::Play;
-use crate::runs::put_asked;
-use crate::seats::put_called;
-use event_text::{Dialog, NO_MEMORY, Opening, memory_of};
+use crate::runs::put_closed_answer;
+use crate::seats::put_open_answer;
+use event_text::{Dialog, NO_MEMORY, Opening, opening_memory_of};
 use machine_table::{Config, OpenError};
 use mailboxes::{BankSeat, CoreSeat, Machine, Run, open};
 use physiological_order::Memory;
@@ -15,7 +15,7 @@ use std::alloc::{AllocError, Global};
 use std::io;
 
 /// A machine with this memory, and its seats.
-fn opened(
+fn open_seats(
     alloc: Global,
     config: &Config,
     memory: Memory,
@@ -31,7 +31,7 @@ fn opened(
 
 /// What a machine leaves that is closed with these seats, which are all that it has. AllocError if memory for that
 /// can't be allocated; then all is dropped.
-fn closed(
+fn close_seats(
     alloc: Global,
     machine: Machine,
     cores: Vec<CoreSeat>,
@@ -48,7 +48,7 @@ fn closed(
 }
 
 /// Plays calls of open seats, up to a line that opens or closes.
-fn play_open<D: Dialog>(
+fn play_open_seats<D: Dialog>(
     play: &mut Play<'_, D>,
     machine: &Machine,
     cores: &mut Vec<CoreSeat>,
@@ -60,10 +60,10 @@ fn play_open<D: Dialog>(
     ensures banks { AllBankSeats machine.now banks.new.items }
 {
     for _ in 0..u64::MAX {
-        match play.call()? {
+        match play.current_call()? {
             None | Some(Call::Seats(_) | Call::Numbers(_) | Call::Close) => return Ok(()),
             Some(call) => {
-                put_called(machine, cores, banks, &call, &mut play.reply);
+                put_open_answer(machine, cores, banks, &call, &mut play.reply);
                 play.take_answer()?;
             }
         }
@@ -72,14 +72,14 @@ fn play_open<D: Dialog>(
 }
 
 /// Plays calls after the close, up to a line that opens.
-fn play_closed<D: Dialog>(play: &mut Play<'_, D>, run: &Run) -> io::Result<()>
+fn play_closed_seats<D: Dialog>(play: &mut Play<'_, D>, run: &Run) -> io::Result<()>
     requires { Parts run.now }
 {
     for _ in 0..u64::MAX {
-        match play.call()? {
+        match play.current_call()? {
             None | Some(Call::Seats(_) | Call::Numbers(_)) => return Ok(()),
             Some(call) => {
-                put_asked(play.alloc, run, &call, &mut play.reply);
+                put_closed_answer(play.alloc, run, &call, &mut play.reply);
                 play.take_answer()?;
             }
         }
@@ -89,25 +89,25 @@ fn play_closed<D: Dialog>(play: &mut Play<'_, D>, run: &Run) -> io::Result<()>
 
 /// Plays a machine: the line that opens it, and those after it, up to one that opens anew.
 pub(crate) fn play_machine<D: Dialog>(play: &mut Play<'_, D>, opening: &Opening) -> io::Result<()> {
-    let Ok(memory) = memory_of(play.alloc, opening.words.as_slice()) else {
-        return play.say(NO_MEMORY);
+    let Ok(memory) = opening_memory_of(play.alloc, opening.words.as_slice()) else {
+        return play.answer_with(NO_MEMORY);
     };
-    let (machine, mut cores, mut banks) = match opened(play.alloc, &opening.config, memory) {
+    let (machine, mut cores, mut banks) = match open_seats(play.alloc, &opening.config, memory) {
         Ok(all) => all,
-        Err(OpenError::BadConfig) => return play.say("refused BadConfig"),
-        Err(OpenError::NoMemory) => return play.say(NO_MEMORY),
+        Err(OpenError::BadConfig) => return play.answer_with("refused BadConfig"),
+        Err(OpenError::NoMemory) => return play.answer_with(NO_MEMORY),
     };
     play.reply.line_words = opening.config.line_words;
-    play.say("opened")?;
-    play_open(play, &machine, &mut cores, &mut banks)?;
-    if !matches!(play.call()?, Some(Call::Close)) {
+    play.answer_with("opened")?;
+    play_open_seats(play, &machine, &mut cores, &mut banks)?;
+    if !matches!(play.current_call()?, Some(Call::Close)) {
         return Ok(());
     }
-    match closed(play.alloc, machine, cores, banks) {
+    match close_seats(play.alloc, machine, cores, banks) {
         Ok(run) => {
-            play.say("closed")?;
-            play_closed(play, &run)
+            play.answer_with("closed")?;
+            play_closed_seats(play, &run)
         }
-        Err(AllocError) => play.say(NO_MEMORY),
+        Err(AllocError) => play.answer_with(NO_MEMORY),
     }
 }

@@ -18,7 +18,7 @@ use event_text::{Cause, Dialog, Example, NO_MACHINE, Page, Player, Turn, run_pla
 use machines::play_machine;
 use numbers::{MOST, play_numbers};
 use play::{OfExample, Play};
-use reading::call_of;
+use reading::read_seats_call;
 use std::alloc::Global;
 use std::io;
 use std::io::Write;
@@ -28,41 +28,41 @@ use std::process::ExitCode;
 struct SeatPlayer;
 
 /// Plays all lines.
-fn play_all<D: Dialog>(play: &mut Play<'_, D>) -> io::Result<()> {
+fn play_all_lines<D: Dialog>(play: &mut Play<'_, D>) -> io::Result<()> {
     for _ in 0..u64::MAX {
-        match play.call()? {
+        match play.current_call()? {
             None => return Ok(()),
             Some(Call::Seats(opening)) => play_machine(play, &opening)?,
             Some(Call::Numbers(drawers)) if 0 < drawers && drawers <= MOST => play_numbers(
                 play, drawers,
             )?,
-            Some(_) => play.say(NO_MACHINE)?,
+            Some(_) => play.answer_with(NO_MACHINE)?,
         }
     }
     Ok(())
 }
 
 impl Player for SeatPlayer {
-    fn read(&self, alloc: Global, turn: &Turn<'_>) -> Result<(), Cause> {
-        let _call = call_of(alloc, &mut turn.words(1))?;
+    fn check_line(&self, alloc: Global, turn: &Turn<'_>) -> Result<(), Cause> {
+        let _call = read_seats_call(alloc, &mut turn.call_words(1))?;
         Ok(())
     }
 
-    fn play<W: Write + Drop>(
+    fn play_readable_example<W: Write + Drop>(
         &self,
         alloc: Global,
         example: &Example<'_>,
         page: &mut Page<'_>,
         out: &mut W,
     ) -> io::Result<()> {
-        self.answer(alloc, &mut OfExample::new(example, page, out))
+        self.answer_lines(alloc, &mut OfExample::new(example, page, out))
     }
 
-    fn answer<D: Dialog>(&self, alloc: Global, dialog: &mut D) -> io::Result<()> {
-        play_all(&mut Play::new(alloc, dialog))
+    fn answer_lines<D: Dialog>(&self, alloc: Global, dialog: &mut D) -> io::Result<()> {
+        play_all_lines(&mut Play::new(alloc, dialog))
     }
 
-    fn has_ways(&self) -> bool {
+    fn has_other_ways(&self) -> bool {
         false
     }
 }

@@ -15,47 +15,47 @@ pub(crate) const MOST: u32 = 16;
 const NO_DRAWER: &str = "no drawer";
 
 /// Drawn numbers, or `none`.
-fn put_list(drawn: &[u64], out: &mut Reply) {
+fn put_drawn_numbers(drawn: &[u64], out: &mut Reply) {
     for number in drawn {
-        out.number(*number);
+        out.put_number(*number);
     }
-    out.or("none");
+    out.put_word_if_empty("none");
 }
 
 /// The drawer of a number draws.
-fn put_draw(numbers: &Numbers, drawers: &mut Vec<Drawer>, number: u32, out: &mut Reply)
+fn put_next_drawn_number(numbers: &Numbers, drawers: &mut Vec<Drawer>, number: u32, out: &mut Reply)
     requires { AllDrawersOf numbers.now drawers.old.items }
     ensures { AllDrawersOf numbers.now drawers.new.items }
 {
     let at = number as usize;
     if at >= drawers.len() {
-        return out.word(NO_DRAWER);
+        return out.put_word(NO_DRAWER);
     }
     match drawers[at].draw(numbers) {
-        Ok(drawn) => out.number(drawn),
-        Err(DrawError::NoMemory) => out.word(NO_MEMORY),
-        Err(DrawError::TooMany) => out.word("refused TooMany"),
+        Ok(drawn) => out.put_number(drawn),
+        Err(DrawError::NoMemory) => out.put_word(NO_MEMORY),
+        Err(DrawError::TooMany) => out.put_word("refused TooMany"),
     }
 }
 
 /// What the drawer of a number drew.
-fn put_drawn(drawers: &[Drawer], number: u32, out: &mut Reply) {
+fn put_numbers_of_drawer(drawers: &[Drawer], number: u32, out: &mut Reply) {
     match drawers.get(number as usize) {
-        Some(drawer) => put_list(drawer.drawn.as_slice(), out),
-        None => out.word(NO_DRAWER),
+        Some(drawer) => put_drawn_numbers(drawer.drawn.as_slice(), out),
+        None => out.put_word(NO_DRAWER),
     }
 }
 
 /// What the drawer of a number drew, of the lists that the close left.
-fn put_left(lists: &[Vec<u64>], number: u32, out: &mut Reply) {
+fn put_numbers_left(lists: &[Vec<u64>], number: u32, out: &mut Reply) {
     match lists.get(number as usize) {
-        Some(list) => put_list(list.as_slice(), out),
-        None => out.word(NO_DRAWER),
+        Some(list) => put_drawn_numbers(list.as_slice(), out),
+        None => out.put_word(NO_DRAWER),
     }
 }
 
 /// Plays draws, up to a line that opens or closes.
-fn play_open<D: Dialog>(
+fn play_open_numbers<D: Dialog>(
     play: &mut Play<'_, D>,
     numbers: &Numbers,
     drawers: &mut Vec<Drawer>,
@@ -64,11 +64,16 @@ fn play_open<D: Dialog>(
     ensures { AllDrawersOf numbers.now drawers.new.items }
 {
     for _ in 0..u64::MAX {
-        match play.call()? {
+        match play.current_call()? {
             None | Some(Call::Seats(_) | Call::Numbers(_) | Call::Close) => return Ok(()),
-            Some(Call::Draw(drawer)) => put_draw(numbers, drawers, drawer, &mut play.reply),
-            Some(Call::Drawn(drawer)) => put_drawn(drawers, drawer, &mut play.reply),
-            Some(_) => play.reply.word(NO_MACHINE),
+            Some(Call::Draw(drawer)) => put_next_drawn_number(
+                numbers,
+                drawers,
+                drawer,
+                &mut play.reply,
+            ),
+            Some(Call::Drawn(drawer)) => put_numbers_of_drawer(drawers, drawer, &mut play.reply),
+            Some(_) => play.reply.put_word(NO_MACHINE),
         }
         play.take_answer()?;
     }
@@ -76,12 +81,12 @@ fn play_open<D: Dialog>(
 }
 
 /// Plays calls after the close, up to a line that opens.
-fn play_closed<D: Dialog>(play: &mut Play<'_, D>, lists: &[Vec<u64>]) -> io::Result<()> {
+fn play_closed_numbers<D: Dialog>(play: &mut Play<'_, D>, lists: &[Vec<u64>]) -> io::Result<()> {
     for _ in 0..u64::MAX {
-        match play.call()? {
+        match play.current_call()? {
             None | Some(Call::Seats(_) | Call::Numbers(_)) => return Ok(()),
-            Some(Call::Drawn(drawer)) => put_left(lists, drawer, &mut play.reply),
-            Some(_) => play.reply.word(NO_MACHINE),
+            Some(Call::Drawn(drawer)) => put_numbers_left(lists, drawer, &mut play.reply),
+            Some(_) => play.reply.put_word(NO_MACHINE),
         }
         play.take_answer()?;
     }
@@ -89,7 +94,7 @@ fn play_closed<D: Dialog>(play: &mut Play<'_, D>, lists: &[Vec<u64>]) -> io::Res
 }
 
 /// Closes the numbers with these drawers, which are all that they have, and plays the calls after that.
-fn play_close<D: Dialog>(
+fn close_and_play_numbers<D: Dialog>(
     play: &mut Play<'_, D>,
     numbers: Numbers,
     drawers: Vec<Drawer>,
@@ -97,11 +102,11 @@ fn play_close<D: Dialog>(
     requires { AllDrawersOf numbers drawers.items }
 {
     if !numbers.is_whole(drawers.as_slice()) {
-        return play.say("a drawer is missing");
+        return play.answer_with("a drawer is missing");
     }
     let lists = numbers.close(drawers);
-    play.say("closed")?;
-    play_closed(play, lists.as_slice())
+    play.answer_with("closed")?;
+    play_closed_numbers(play, lists.as_slice())
 }
 
 /// Plays numbers with this many drawers: the line that opens them, and those after it, up to one that opens anew.
@@ -109,12 +114,12 @@ pub(crate) fn play_numbers<D: Dialog>(play: &mut Play<'_, D>, drawers: u32) -> i
     requires { (0 < drawers) × (drawers ≤ 16) }
 {
     let Ok((numbers, mut drawers)) = open_numbers(play.alloc, drawers) else {
-        return play.say(NO_MEMORY);
+        return play.answer_with(NO_MEMORY);
     };
-    play.say("opened")?;
-    play_open(play, &numbers, &mut drawers)?;
-    if matches!(play.call()?, Some(Call::Close)) {
-        return play_close(play, numbers, drawers);
+    play.answer_with("opened")?;
+    play_open_numbers(play, &numbers, &mut drawers)?;
+    if matches!(play.current_call()?, Some(Call::Close)) {
+        return close_and_play_numbers(play, numbers, drawers);
     }
     Ok(())
 }

@@ -1,7 +1,7 @@
 //! The line that is played now, of an example whose lines can all be read, or of those that come.
 
 use crate::calls::Call;
-use crate::reading::call_of;
+use crate::reading::read_seats_call;
 use event_text::{Cause, Cursor, Dialog, Example, NO_MEMORY, Page, Reply, Turn};
 use std::alloc::{AllocError, Global};
 use std::io;
@@ -19,7 +19,7 @@ pub(crate) struct OfExample<'t, 'p, 'b, 'o, W> {
 }
 
 /// The next line, which can be read.
-fn next<'a>(cursor: &mut Cursor<'a>) -> Option<Turn<'a>> {
+fn next_readable_turn<'a>(cursor: &mut Cursor<'a>) -> Option<Turn<'a>> {
     match cursor.next_turn() {
         Ok(turn) => turn,
         Err(_) => None,
@@ -34,7 +34,7 @@ impl<'t, 'p, 'b, 'o, W: Write + Drop> OfExample<'t, 'p, 'b, 'o, W> {
         out: &'o mut W,
     ) -> OfExample<'t, 'p, 'b, 'o, W> {
         let mut cursor = example.cursor();
-        let now = next(&mut cursor);
+        let now = next_readable_turn(&mut cursor);
         OfExample {
             cursor,
             now,
@@ -46,7 +46,7 @@ impl<'t, 'p, 'b, 'o, W: Write + Drop> OfExample<'t, 'p, 'b, 'o, W> {
 }
 
 impl<W: Write + Drop> Dialog for OfExample<'_, '_, '_, '_, W> {
-    fn turn(&self) -> Option<Turn<'_>> {
+    fn current_turn(&self) -> Option<Turn<'_>> {
         self.now
     }
 
@@ -56,15 +56,15 @@ impl<W: Write + Drop> Dialog for OfExample<'_, '_, '_, '_, W> {
             return Ok(());
         };
         self.page.take_answer(&turn, reply, self.out)?;
-        self.is_again = !self.is_again && self.page.how.again && reply.told()? == NO_MEMORY;
+        self.is_again = !self.is_again && self.page.how.again && reply.whole_text()? == NO_MEMORY;
         if !self.is_again {
-            self.now = next(&mut self.cursor);
+            self.now = next_readable_turn(&mut self.cursor);
         }
         Ok(())
     }
 
     /// The line was read before, so only an allocation can have failed.
-    fn refuse(&mut self, _cause: Cause) -> io::Result<()> {
+    fn refuse_line(&mut self, _cause: Cause) -> io::Result<()> {
         Err(io::Error::from(AllocError))
     }
 }
@@ -89,14 +89,14 @@ impl<'d, D: Dialog> Play<'d, D> {
     }
 
     /// The call that is played now, of the first line from here on that can be read; none after the last line.
-    pub fn call(&mut self) -> io::Result<Option<Call>> {
+    pub fn current_call(&mut self) -> io::Result<Option<Call>> {
         for _ in 0..u64::MAX {
-            let Some(turn) = self.dialog.turn() else {
+            let Some(turn) = self.dialog.current_turn() else {
                 break;
             };
-            match call_of(self.alloc, &mut turn.words(self.reply.line_words)) {
+            match read_seats_call(self.alloc, &mut turn.call_words(self.reply.line_words)) {
                 Ok(call) => return Ok(Some(call)),
-                Err(cause) => self.dialog.refuse(cause)?,
+                Err(cause) => self.dialog.refuse_line(cause)?,
             }
         }
         Ok(None)
@@ -110,8 +110,8 @@ impl<'d, D: Dialog> Play<'d, D> {
     }
 
     /// Takes this answer, and goes on.
-    pub fn say(&mut self, answer: &str) -> io::Result<()> {
-        self.reply.word(answer);
+    pub fn answer_with(&mut self, answer: &str) -> io::Result<()> {
+        self.reply.put_word(answer);
         self.take_answer()
     }
 }

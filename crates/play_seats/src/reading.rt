@@ -6,7 +6,7 @@ use event_text::{Cause, Seat, Words, read_opening};
 use std::alloc::Global;
 
 /// A call of any seat.
-fn of_seat(seat: Seat, call: OfSeat) -> Call {
+fn seat_call(seat: Seat, call: OfSeat) -> Call {
     match seat {
         Seat::Core(number) => Call::Core(number, OfCore::Seat(call)),
         Seat::Bank(number) => Call::Bank(number, call),
@@ -14,42 +14,42 @@ fn of_seat(seat: Seat, call: OfSeat) -> Call {
 }
 
 /// A look at the messages of any seat.
-fn mail_look(seat: Seat, look: MailLook) -> Call {
+fn mail_look_call(seat: Seat, look: MailLook) -> Call {
     match seat {
         Seat::Core(number) => Call::CoreLook(number, CoreLook::Mail(look)),
         Seat::Bank(number) => Call::BankLook(number, BankLook::Mail(look)),
     }
 }
 
-fn issue(words: &mut Words<'_>) -> Result<Call, Cause> {
-    let core = words.small()?;
-    Ok(Call::Core(core, OfCore::Issue(words.operation()?)))
+fn read_issue(words: &mut Words<'_>) -> Result<Call, Cause> {
+    let core = words.next_small_number()?;
+    Ok(Call::Core(core, OfCore::Issue(words.next_operation()?)))
 }
 
-fn evict(words: &mut Words<'_>) -> Result<Call, Cause> {
-    let seat = words.seat()?;
-    Ok(of_seat(seat, OfSeat::Evict(words.line()?)))
+fn read_evict(words: &mut Words<'_>) -> Result<Call, Cause> {
+    let seat = words.next_seat()?;
+    Ok(seat_call(seat, OfSeat::Evict(words.next_line_number()?)))
 }
 
 /// A call that changes a seat, or looks something up.
-fn act(name: &str, words: &mut Words<'_>) -> Result<Call, Cause> {
+fn read_seat_action(name: &str, words: &mut Words<'_>) -> Result<Call, Cause> {
     match name {
-        "issue" => issue(words),
-        "attempt" => Ok(Call::Core(words.small()?, OfCore::Attempt)),
-        "advance" => Ok(Call::Core(words.small()?, OfCore::Advance)),
-        "evict" => evict(words),
-        "put" => Ok(of_seat(words.seat()?, OfSeat::Put)),
-        "take" => Ok(of_seat(words.seat()?, OfSeat::Take)),
-        "serve" => Ok(of_seat(words.seat()?, OfSeat::Serve)),
-        "turn" => Ok(of_seat(words.seat()?, OfSeat::Turn)),
-        _ => part_look(name, words),
+        "issue" => read_issue(words),
+        "attempt" => Ok(Call::Core(words.next_small_number()?, OfCore::Attempt)),
+        "advance" => Ok(Call::Core(words.next_small_number()?, OfCore::Advance)),
+        "evict" => read_evict(words),
+        "put" => Ok(seat_call(words.next_seat()?, OfSeat::Put)),
+        "take" => Ok(seat_call(words.next_seat()?, OfSeat::Take)),
+        "serve" => Ok(seat_call(words.next_seat()?, OfSeat::Serve)),
+        "turn" => Ok(seat_call(words.next_seat()?, OfSeat::Turn)),
+        _ => read_part_look(name, words),
     }
 }
 
 /// A look at a line by a core.
-fn at_core(name: &str, words: &mut Words<'_>) -> Result<Call, Cause> {
-    let core = words.small()?;
-    let line = words.line()?;
+fn read_line_look_of_core(name: &str, words: &mut Words<'_>) -> Result<Call, Cause> {
+    let core = words.next_small_number()?;
+    let line = words.next_line_number()?;
     let look = match name {
         "victim" => CoreLook::Victim(line),
         _ => CoreLook::Copy(line),
@@ -58,9 +58,9 @@ fn at_core(name: &str, words: &mut Words<'_>) -> Result<Call, Cause> {
 }
 
 /// A look at a line by a bank.
-fn at_bank(name: &str, words: &mut Words<'_>) -> Result<Call, Cause> {
-    let bank = words.small()?;
-    let line = words.line()?;
+fn read_line_look_of_bank(name: &str, words: &mut Words<'_>) -> Result<Call, Cause> {
+    let bank = words.next_small_number()?;
+    let line = words.next_line_number()?;
     let look = match name {
         "entry" => BankLook::Entry(line),
         _ => BankLook::Dram(line),
@@ -68,35 +68,35 @@ fn at_bank(name: &str, words: &mut Words<'_>) -> Result<Call, Cause> {
     Ok(Call::BankLook(bank, look))
 }
 
-fn room(words: &mut Words<'_>) -> Result<Call, Cause> {
-    match words.seat()? {
+fn read_room_look(words: &mut Words<'_>) -> Result<Call, Cause> {
+    match words.next_seat()? {
         Seat::Bank(bank) => Ok(Call::BankLook(bank, BankLook::Room)),
         Seat::Core(_) => Err(Cause::Bank),
     }
 }
 
 /// A look-up of a core or a bank, or of others.
-fn part_look(name: &str, words: &mut Words<'_>) -> Result<Call, Cause> {
+fn read_part_look(name: &str, words: &mut Words<'_>) -> Result<Call, Cause> {
     match name {
-        "open" => Ok(Call::CoreLook(words.small()?, CoreLook::Open)),
-        "time" => Ok(Call::CoreLook(words.small()?, CoreLook::Time)),
-        "issued" => Ok(Call::CoreLook(words.small()?, CoreLook::Issued)),
-        "victim" | "copy" => at_core(name, words),
-        "memory-time" => Ok(Call::BankLook(words.small()?, BankLook::Time)),
-        "entry" | "dram" => at_bank(name, words),
-        "room" => room(words),
-        _ => seat_look(name, words),
+        "open" => Ok(Call::CoreLook(words.next_small_number()?, CoreLook::Open)),
+        "time" => Ok(Call::CoreLook(words.next_small_number()?, CoreLook::Time)),
+        "issued" => Ok(Call::CoreLook(words.next_small_number()?, CoreLook::Issued)),
+        "victim" | "copy" => read_line_look_of_core(name, words),
+        "memory-time" => Ok(Call::BankLook(words.next_small_number()?, BankLook::Time)),
+        "entry" | "dram" => read_line_look_of_bank(name, words),
+        "room" => read_room_look(words),
+        _ => read_seat_look(name, words),
     }
 }
 
-fn held(words: &mut Words<'_>) -> Result<Call, Cause> {
-    let seat = words.seat()?;
-    Ok(mail_look(seat, MailLook::Held(words.small()?)))
+fn read_held_look(words: &mut Words<'_>) -> Result<Call, Cause> {
+    let seat = words.next_seat()?;
+    Ok(mail_look_call(seat, MailLook::Held(words.next_small_number()?)))
 }
 
-fn state(words: &mut Words<'_>) -> Result<Call, Cause> {
-    let seat = words.seat()?;
-    let count = words.small()?;
+fn read_state_look(words: &mut Words<'_>) -> Result<Call, Cause> {
+    let seat = words.next_seat()?;
+    let count = words.next_small_number()?;
     Ok(match seat {
         Seat::Core(core) => Call::CoreLook(core, CoreLook::State(count)),
         Seat::Bank(bank) => Call::BankLook(bank, BankLook::State(count)),
@@ -104,55 +104,55 @@ fn state(words: &mut Words<'_>) -> Result<Call, Cause> {
 }
 
 /// A look-up of a seat's messages, of all of a seat, or of a closed run.
-fn seat_look(name: &str, words: &mut Words<'_>) -> Result<Call, Cause> {
+fn read_seat_look(name: &str, words: &mut Words<'_>) -> Result<Call, Cause> {
     match name {
-        "hand" => Ok(mail_look(words.seat()?, MailLook::Hand)),
-        "held" => held(words),
-        "places" => Ok(mail_look(words.seat()?, MailLook::Places)),
-        "outbox" => Ok(mail_look(words.seat()?, MailLook::Outbox)),
-        "cursor" => Ok(mail_look(words.seat()?, MailLook::Cursor)),
-        "stopped" => Ok(mail_look(words.seat()?, MailLook::Stopped)),
-        "state" => state(words),
-        "records" => records(words),
-        "sent" => sent(words),
-        _ => Ok(Call::RunLook(run_look(name, words)?)),
+        "hand" => Ok(mail_look_call(words.next_seat()?, MailLook::Hand)),
+        "held" => read_held_look(words),
+        "places" => Ok(mail_look_call(words.next_seat()?, MailLook::Places)),
+        "outbox" => Ok(mail_look_call(words.next_seat()?, MailLook::Outbox)),
+        "cursor" => Ok(mail_look_call(words.next_seat()?, MailLook::Cursor)),
+        "stopped" => Ok(mail_look_call(words.next_seat()?, MailLook::Stopped)),
+        "state" => read_state_look(words),
+        "records" => read_records_look(words),
+        "sent" => read_sent_look(words),
+        _ => Ok(Call::RunLook(read_run_look(name, words)?)),
     }
 }
 
 /// A look-up of a closed run alone.
-fn run_look(name: &str, words: &mut Words<'_>) -> Result<RunLook, Cause> {
+fn read_run_look(name: &str, words: &mut Words<'_>) -> Result<RunLook, Cause> {
     match name {
-        "record" => Ok(RunLook::Record(words.number()?)),
+        "record" => Ok(RunLook::Record(words.next_number()?)),
         "stale" => Ok(RunLook::Stale),
         "check" => Ok(RunLook::Check),
         "arranged" => Ok(RunLook::Arranged),
-        "word" => Ok(RunLook::Word(words.address()?)),
-        "owners" => Ok(RunLook::Owners(words.line()?)),
-        "slot" => Ok(RunLook::Slot(words.number()?)),
+        "word" => Ok(RunLook::Word(words.next_address()?)),
+        "owners" => Ok(RunLook::Owners(words.next_line_number()?)),
+        "slot" => Ok(RunLook::Slot(words.next_number()?)),
         "slots" => Ok(RunLook::Slots),
         _ => Err(Cause::Call),
     }
 }
 
 /// How many records the closed run has, or the core that is named.
-fn records(words: &mut Words<'_>) -> Result<Call, Cause> {
+fn read_records_look(words: &mut Words<'_>) -> Result<Call, Cause> {
     let Some(word) = words.next_word() else {
         return Ok(Call::RunLook(RunLook::Records));
     };
-    let core = words.small_in(word)?;
+    let core = words.small_number_of_word(word)?;
     Ok(Call::CoreLook(core, CoreLook::Records))
 }
 
 /// What all seats of the closed run sent, or the seat that is named.
-fn sent(words: &mut Words<'_>) -> Result<Call, Cause> {
+fn read_sent_look(words: &mut Words<'_>) -> Result<Call, Cause> {
     match words.next_word() {
         None => Ok(Call::RunLook(RunLook::Sent)),
-        Some(kind) => Ok(mail_look(words.seat_of(kind)?, MailLook::Sent)),
+        Some(kind) => Ok(mail_look_call(words.seat_from_word(kind)?, MailLook::Sent)),
     }
 }
 
-fn numbers(words: &mut Words<'_>) -> Result<Call, Cause> {
-    let drawers = words.small()?;
+fn read_numbers_opening(words: &mut Words<'_>) -> Result<Call, Cause> {
+    let drawers = words.next_small_number()?;
     if drawers == 0 || drawers > MOST {
         return Err(Cause::Drawers);
     }
@@ -160,15 +160,15 @@ fn numbers(words: &mut Words<'_>) -> Result<Call, Cause> {
 }
 
 /// What words ask for.
-pub(crate) fn call_of(alloc: Global, words: &mut Words<'_>) -> Result<Call, Cause> {
-    let call = match words.wanted(Cause::Call)? {
+pub(crate) fn read_seats_call(alloc: Global, words: &mut Words<'_>) -> Result<Call, Cause> {
+    let call = match words.required_word(Cause::Call)? {
         "seats" => Call::Seats(read_opening(alloc, words)?),
-        "numbers" => numbers(words)?,
-        "draw" => Call::Draw(words.small()?),
-        "drawn" => Call::Drawn(words.small()?),
+        "numbers" => read_numbers_opening(words)?,
+        "draw" => Call::Draw(words.next_small_number()?),
+        "drawn" => Call::Drawn(words.next_small_number()?),
         "close" => Call::Close,
-        name => act(name, words)?,
+        name => read_seat_action(name, words)?,
     };
-    words.end()?;
+    words.expect_end()?;
     Ok(call)
 }

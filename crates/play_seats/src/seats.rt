@@ -1,11 +1,14 @@
 //! Calls of open seats.
 ghost use Rattle.mailboxes.specs.Seats.{AllBankSeats, AllCoreSeats, IsBankSeat, IsCoreSeat};
 
-use crate::answers::{NO_SEAT, Says, done, evicted, put_says, served, turned};
+use crate::answers::{
+    NO_SEAT, Says, put_call_answer, says_of_eviction, says_of_served, says_of_turn,
+    says_unless_refused,
+};
 use crate::calls::{BankLook, Call, CoreLook, OfCore, OfSeat};
 use crate::looks::{look_at_bank, look_at_core};
-use crate::views::{Mail, open_bank, open_core};
-use event_text::{NO_MACHINE, Reply, put_open};
+use crate::views::{Mail, view_open_bank, view_open_core};
+use event_text::{NO_MACHINE, Reply, put_open_op};
 use machine_table::Answer;
 use mailboxes::{BankSeat, CoreSeat, Machine};
 
@@ -15,11 +18,11 @@ fn call_core_seat(core: &mut CoreSeat, machine: &Machine, call: &OfSeat) -> Says
     ensures { IsCoreSeat machine.now core.new }
 {
     match call {
-        OfSeat::Evict(line) => done(Answer::Evicted, core.evict(machine, *line)),
+        OfSeat::Evict(line) => says_unless_refused(Answer::Evicted, core.evict(machine, *line)),
         OfSeat::Put => Says::Puts(core.put(machine)),
         OfSeat::Take => Says::Takes(core.take(machine)),
-        OfSeat::Serve => served(core.serve(machine)),
-        OfSeat::Turn => turned(core.turn(machine)),
+        OfSeat::Serve => says_of_served(core.serve(machine)),
+        OfSeat::Turn => says_of_turn(core.turn(machine)),
     }
 }
 
@@ -29,9 +32,9 @@ fn call_core(core: &mut CoreSeat, machine: &Machine, call: &OfCore) -> Says
     ensures { IsCoreSeat machine.now core.new }
 {
     match call {
-        OfCore::Issue(op) => done(Answer::Issued, core.issue(machine, *op)),
+        OfCore::Issue(op) => says_unless_refused(Answer::Issued, core.issue(machine, *op)),
         OfCore::Attempt => Says::Answers(core.attempt(machine)),
-        OfCore::Advance => done(Answer::Advanced, core.advance(machine)),
+        OfCore::Advance => says_unless_refused(Answer::Advanced, core.advance(machine)),
         OfCore::Seat(call) => call_core_seat(core, machine, call),
     }
 }
@@ -42,16 +45,16 @@ fn call_bank(bank: &mut BankSeat, machine: &Machine, call: &OfSeat) -> Says
     ensures { IsBankSeat machine.now bank.new }
 {
     match call {
-        OfSeat::Evict(line) => evicted(bank.evict(machine, *line)),
+        OfSeat::Evict(line) => says_of_eviction(bank.evict(machine, *line)),
         OfSeat::Put => Says::Puts(bank.put(machine)),
         OfSeat::Take => Says::Takes(bank.take(machine)),
-        OfSeat::Serve => served(bank.serve(machine)),
-        OfSeat::Turn => turned(bank.turn(machine)),
+        OfSeat::Serve => says_of_served(bank.serve(machine)),
+        OfSeat::Turn => says_of_turn(bank.turn(machine)),
     }
 }
 
 /// What the core's seat at an index answers to a call.
-fn core_called(machine: &Machine, cores: &mut Vec<CoreSeat>, at: usize, call: &OfCore) -> Says
+fn call_core_at(machine: &Machine, cores: &mut Vec<CoreSeat>, at: usize, call: &OfCore) -> Says
     requires { AllCoreSeats machine.now cores.old.items }
     ensures { AllCoreSeats machine.now cores.new.items }
 {
@@ -62,7 +65,7 @@ fn core_called(machine: &Machine, cores: &mut Vec<CoreSeat>, at: usize, call: &O
 }
 
 /// What the bank's seat at an index answers to a call.
-fn bank_called(machine: &Machine, banks: &mut Vec<BankSeat>, at: usize, call: &OfSeat) -> Says
+fn call_bank_at(machine: &Machine, banks: &mut Vec<BankSeat>, at: usize, call: &OfSeat) -> Says
     requires { AllBankSeats machine.now banks.old.items }
     ensures { AllBankSeats machine.now banks.new.items }
 {
@@ -76,9 +79,9 @@ fn bank_called(machine: &Machine, banks: &mut Vec<BankSeat>, at: usize, call: &O
 fn look_at_core_seat(seat: &CoreSeat, number: u32, look: &CoreLook, out: &mut Reply) {
     let _inside: Option<Mail<'_>> = None;
     match look {
-        CoreLook::Open => put_open(seat.open_op(), out),
-        CoreLook::Victim(line) => out.line_or_none(seat.victim(*line)),
-        look => look_at_core(number, &open_core(seat), look, out),
+        CoreLook::Open => put_open_op(seat.open_op(), out),
+        CoreLook::Victim(line) => out.put_line_or_none(seat.victim(*line)),
+        look => look_at_core(number, &view_open_core(seat), look, out),
     }
 }
 
@@ -86,7 +89,7 @@ fn look_at_core_seat(seat: &CoreSeat, number: u32, look: &CoreLook, out: &mut Re
 fn look_at_open_core(cores: &Vec<CoreSeat>, number: u32, look: &CoreLook, out: &mut Reply) {
     let at = number as usize;
     if at >= cores.len() {
-        return out.word(NO_SEAT);
+        return out.put_word(NO_SEAT);
     }
     look_at_core_seat(&cores[at], number, look, out)
 }
@@ -94,20 +97,20 @@ fn look_at_open_core(cores: &Vec<CoreSeat>, number: u32, look: &CoreLook, out: &
 /// Looks up an open seat of a bank.
 fn look_at_bank_seat(seat: &BankSeat, number: u32, look: &BankLook, out: &mut Reply) {
     let _inside: Option<Mail<'_>> = None;
-    look_at_bank(number, &open_bank(seat), look, out)
+    look_at_bank(number, &view_open_bank(seat), look, out)
 }
 
 /// Looks up the open seat of the bank of a number.
 fn look_at_open_bank(banks: &Vec<BankSeat>, number: u32, look: &BankLook, out: &mut Reply) {
     let at = number as usize;
     if at >= banks.len() {
-        return out.word(NO_SEAT);
+        return out.put_word(NO_SEAT);
     }
     look_at_bank_seat(&banks[at], number, look, out)
 }
 
 /// Writes the answer to a call while the seats are open.
-pub(crate) fn put_called(
+pub(crate) fn put_open_answer(
     machine: &Machine,
     cores: &mut Vec<CoreSeat>,
     banks: &mut Vec<BankSeat>,
@@ -121,13 +124,13 @@ pub(crate) fn put_called(
 {
     match call {
         Call::Core(number, call) => {
-            put_says(&core_called(machine, cores, *number as usize, call), out)
+            put_call_answer(&call_core_at(machine, cores, *number as usize, call), out)
         }
         Call::Bank(number, call) => {
-            put_says(&bank_called(machine, banks, *number as usize, call), out)
+            put_call_answer(&call_bank_at(machine, banks, *number as usize, call), out)
         }
         Call::CoreLook(number, look) => look_at_open_core(cores, *number, look, out),
         Call::BankLook(number, look) => look_at_open_bank(banks, *number, look, out),
-        _ => out.word(NO_MACHINE),
+        _ => out.put_word(NO_MACHINE),
     }
 }

@@ -46,7 +46,7 @@ pub(crate) struct BankView<'a> {
 }
 
 /// A core's seat that is open.
-pub(crate) fn open_core(seat: &CoreSeat) -> CoreView<'_> {
+pub(crate) fn view_open_core(seat: &CoreSeat) -> CoreView<'_> {
     CoreView {
         core: seat.core(),
         issued: seat.issued(),
@@ -64,7 +64,7 @@ pub(crate) fn open_core(seat: &CoreSeat) -> CoreView<'_> {
 }
 
 /// A bank's seat that is open.
-pub(crate) fn open_bank(seat: &BankSeat) -> BankView<'_> {
+pub(crate) fn view_open_bank(seat: &BankSeat) -> BankView<'_> {
     BankView {
         bank: seat.bank(),
         dram: seat.dram(),
@@ -80,7 +80,7 @@ pub(crate) fn open_bank(seat: &BankSeat) -> BankView<'_> {
     }
 }
 
-fn closed_core(part: &CorePart) -> CoreView<'_> {
+fn view_closed_core(part: &CorePart) -> CoreView<'_> {
     CoreView {
         core: &part.core,
         issued: part.issued.as_slice(),
@@ -93,7 +93,7 @@ fn closed_core(part: &CorePart) -> CoreView<'_> {
     }
 }
 
-fn closed_bank(part: &BankPart) -> BankView<'_> {
+fn view_closed_bank(part: &BankPart) -> BankView<'_> {
     BankView {
         bank: &part.bank,
         dram: &part.dram,
@@ -106,20 +106,20 @@ fn closed_bank(part: &BankPart) -> BankView<'_> {
 }
 
 /// What the core of a number left, if it is there.
-pub(crate) fn core_left(cores: &[CorePart], number: u32) -> Option<CoreView<'_>> {
+pub(crate) fn find_closed_core(cores: &[CorePart], number: u32) -> Option<CoreView<'_>> {
     for part in cores {
         if part.number == number {
-            return Some(closed_core(part));
+            return Some(view_closed_core(part));
         }
     }
     None
 }
 
 /// What the bank left whose seat has this number, if it is there.
-pub(crate) fn bank_left(banks: &[BankPart], seat: u64) -> Option<BankView<'_>> {
+pub(crate) fn find_closed_bank(banks: &[BankPart], seat: u64) -> Option<BankView<'_>> {
     for part in banks {
         if u64::from(part.number) == seat {
-            return Some(closed_bank(part));
+            return Some(view_closed_bank(part));
         }
     }
     None

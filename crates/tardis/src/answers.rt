@@ -22,7 +22,7 @@ use std::thread::Threads;
 /// Does what the words ask for, and answers the exit status. A report goes to `out`; why there is none goes to
 /// `errors`, in one line, or in the lines of a command line's refusal. Before it come lines that tell how far a run is,
 /// if they are asked for. Nothing reports errors of `errors` itself.
-pub fn answer<R: Threads + Clock + Sync, F: Files, K: Sink, E: Sink>(
+pub fn answer_words<R: Threads + Clock + Sync, F: Files, K: Sink, E: Sink>(
     rt: &R,
     alloc: Global,
     files: &F,
@@ -58,7 +58,7 @@ pub fn answer<R: Threads + Clock + Sync, F: Files, K: Sink, E: Sink>(
 }
 
 /// The answer if a word is no text: the command line is refused.
-pub fn refuse<E: Sink>(errors: &mut E) -> u8
+pub fn refuse_bad_words<E: Sink>(errors: &mut E) -> u8
     ensures status { result ≡ 3 }
     ensures told { TextGoesOut (E.contents errors.old) (E.contents errors.new)
         (E.failures errors.old) (E.failures errors.new) bad_words }
@@ -68,7 +68,7 @@ pub fn refuse<E: Sink>(errors: &mut E) -> u8
 }
 
 /// The answer if memory for the words can't be allocated.
-pub fn refuse_memory<E: Sink>(errors: &mut E) -> u8
+pub fn refuse_for_no_memory<E: Sink>(errors: &mut E) -> u8
     ensures status { result ≡ 1 }
     ensures told { TextGoesOut (E.contents errors.old) (E.contents errors.new)
         (E.failures errors.old) (E.failures errors.new) (words_text WordsError.NoMemory) }

@@ -35,12 +35,18 @@ pub(crate) fn run_job<R: Threads + Clock + Sync, F: Files, K: Sink, E: Sink>(
         Job::Litmus(options, name) => run_opened_litmus(rt, alloc, files.open(name), options, out),
         Job::Ends(options, name) => list_opened_ends(alloc, files.open(name), options, out),
         Job::Trace(options, name) => run_opened_trace(rt, alloc, files.open(name), options, out),
-        Job::Stream(options, name) => stream_opened(alloc, files.open(name), options, out, errors),
+        Job::Stream(options, name) => stream_opened_trace(
+            alloc,
+            files.open(name),
+            options,
+            out,
+            errors,
+        ),
         Job::Check(options, opening, trace, records) => {
-            let opening = open_named(files, *opening);
+            let opening = open_file_if_named(files, *opening);
             let trace = files.open(trace);
             let records = files.open(records);
-            check_files(alloc, options, opening, trace, records, out)
+            check_opened_files(alloc, options, opening, trace, records, out)
         }
     }
 }
@@ -143,7 +149,7 @@ fn run_trace_file<R: Threads + Clock + Sync, S: Source + Drop, K: Sink>(
 }
 
 // Runs the trace of a file that was opened while it reads it.
-fn stream_opened<S: Source + Drop, K: Sink, E: Sink>(
+fn stream_opened_trace<S: Source + Drop, K: Sink, E: Sink>(
     alloc: Global,
     opened: Result<S, DeviceError>,
     options: &StreamOptions,
@@ -158,12 +164,12 @@ fn stream_opened<S: Source + Drop, K: Sink, E: Sink>(
     ensures quiet { IfErr opened (λ error. errors.new ≡ errors.old) }
 {
     match opened {
-        Ok(file) => stream_file(alloc, file, options, out, errors),
+        Ok(file) => stream_trace_file(alloc, file, options, out, errors),
         Err(DeviceError) => Err(RunError::Read),
     }
 }
 
-fn stream_file<S: Source + Drop, K: Sink, E: Sink>(
+fn stream_trace_file<S: Source + Drop, K: Sink, E: Sink>(
     alloc: Global,
     file: S,
     options: &StreamOptions,
@@ -181,7 +187,10 @@ fn stream_file<S: Source + Drop, K: Sink, E: Sink>(
 }
 
 // The file that has a name, if there is a name.
-fn open_named<F: Files>(files: &F, name: Option<&str>) -> Option<Result<F::File, DeviceError>>
+fn open_file_if_named<F: Files>(
+    files: &F,
+    name: Option<&str>,
+) -> Option<Result<F::File, DeviceError>>
     ensures { OpensNamed (F.opens files.now) name.entry result }
 {
     match name {
@@ -192,7 +201,7 @@ fn open_named<F: Files>(files: &F, name: Option<&str>) -> Option<Result<F::File,
 
 // Checks the records of a file against the trace of another, where all were opened, over the memory that a third one
 // gives if it is there.
-fn check_files<S: Source + Drop, K: Sink>(
+fn check_opened_files<S: Source + Drop, K: Sink>(
     alloc: Global,
     options: &CheckOptions,
     opening: Option<Result<S, DeviceError>>,
@@ -204,13 +213,15 @@ fn check_files<S: Source + Drop, K: Sink>(
         trace records out.old out.new result }
 {
     match (trace, records) {
-        (Ok(trace), Ok(records)) => { check_opened(alloc, options, opening, trace, records, out) }
+        (Ok(trace), Ok(records)) => {
+            check_over_optional_opening(alloc, options, opening, trace, records, out)
+        }
         _ => Err(RunError::Read),
     }
 }
 
 // The same where the other two were opened.
-fn check_opened<S: Source + Drop, K: Sink>(
+fn check_over_optional_opening<S: Source + Drop, K: Sink>(
     alloc: Global,
     options: &CheckOptions,
     opening: Option<Result<S, DeviceError>>,

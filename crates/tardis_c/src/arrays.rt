@@ -76,12 +76,12 @@ fn zeros_verdict(
     requires { HaveNone record_fault records.now }
     ensures { IfOk result (IsVerdictOn (flat empty) operations.now records.now) }
 {
-    let records = records_of(alloc, records)?;
-    verdict_on(alloc, &Memory::new(alloc), operations, &records)
+    let records = records_of_plain(alloc, records)?;
+    verdict_over_opening(alloc, &Memory::new(alloc), operations, &records)
 }
 
 /// The verdict on records, for what cores were issued over a memory that opens as given.
-pub(crate) fn verdict_on(
+pub(crate) fn verdict_over_opening(
     alloc: Global,
     opening: &Memory,
     operations: &[PlainOperation],
@@ -120,7 +120,10 @@ fn extend_lists(alloc: Global, lists: &mut Vec<Vec<Op>>, number: usize) -> Resul
 }
 
 /// The records, in their order.
-pub(crate) fn records_of(alloc: Global, plain: &[PlainRecord]) -> Result<Vec<Record>, AllocError>
+pub(crate) fn records_of_plain(
+    alloc: Global,
+    plain: &[PlainRecord],
+) -> Result<Vec<Record>, AllocError>
     requires { HaveNone record_fault plain.now }
     ensures { IfOk result (λ records. records.items ≡ map record_of plain.now) }
 {

@@ -57,13 +57,13 @@ fn wrong_value(memory: &Memory, records: &[Record], number: u64) -> Found
     requires { (issued : ℕ → List Op) × IsVerdict (flat memory.now) issued records.now (WrongValue number) }
     ensures { IsFound (flat memory.now) records.now (WrongValue number) result }
 {
-    let faulty = &records[index_of(records, number)];
-    let last = last_write(records, faulty);
+    let faulty = &records[index_of_record(records, number)];
+    let last = last_earlier_write(records, faulty);
     wrong_value_by(memory, faulty, last, number)
 }
 
 // The index of a record that has this number.
-fn index_of(records: &[Record], number: u64) -> usize
+fn index_of_record(records: &[Record], number: u64) -> usize
     requires { Any (λ r. r.number ≡ number) records.now }
     ensures below { result < length records.now }
     ensures named { HoldsAt (λ r. r.number ≡ number) records.now result }
@@ -77,7 +77,7 @@ fn index_of(records: &[Record], number: u64) -> usize
 }
 
 // The last of the records that write the word of a record and come before it, by time and number.
-fn last_write(records: &[Record], faulty: &Record) -> Option<Record>
+fn last_earlier_write(records: &[Record], faulty: &Record) -> Option<Record>
     ensures { IsLastWrite faulty.now records.now result }
 {
     let mut last = None;
@@ -92,20 +92,20 @@ fn later_write(last: Option<Record>, next: &Record, faulty: &Record) -> Option<R
     ensures { (records : List Record) → IsLastWrite faulty.now records last →
         IsLastWrite faulty.now (records ++ next.now ∷ []) result }
 {
-    if !is_earlier(next, faulty) {
+    if !is_earlier_write(next, faulty) {
         return last;
     }
-    if !is_later(next, &last) {
+    if !is_after_last(next, &last) {
         return last;
     }
     Some(*next)
 }
 
 // Whether a record writes the word of another one, and comes before it.
-fn is_earlier(candidate: &Record, faulty: &Record) -> bool
+fn is_earlier_write(candidate: &Record, faulty: &Record) -> bool
     ensures { IsTrue result ↔ IsEarlier faulty.now candidate.now }
 {
-    writes(faulty.op.word(), candidate.op) && comes_before(candidate, faulty)
+    writes(faulty.op.word(), candidate.op) && record_comes_before(candidate, faulty)
 }
 
 // Whether an operation writes the word of this number.
@@ -119,19 +119,19 @@ fn writes(word: u64, op: Op) -> bool
 }
 
 // Whether a record comes before another, by time and then by number.
-fn comes_before(first: &Record, second: &Record) -> bool
+fn record_comes_before(first: &Record, second: &Record) -> bool
     ensures { IsTrue result ↔ Before first.now second.now }
 {
     first.ts < second.ts || (first.ts == second.ts && first.number < second.number)
 }
 
 // Whether a record comes after the one that there is, if any.
-fn is_later(next: &Record, last: &Option<Record>) -> bool
+fn is_after_last(next: &Record, last: &Option<Record>) -> bool
     ensures { IsTrue result ↔ MatchOption last.now ⊤ (λ write. Before write next.now) }
 {
     match last {
         None => true,
-        Some(write) => comes_before(write, next),
+        Some(write) => record_comes_before(write, next),
     }
 }
 

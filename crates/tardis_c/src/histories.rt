@@ -5,7 +5,7 @@ ghost use Rattle.tardis_c.specs.Arrays.{HaveNone, IsVerdictOn};
 ghost use Rattle.tardis_c.specs.Histories.{IsFound, IsHistory};
 ghost use Rattle.tardis_c.specs.Plain.{record_fault, record_of, words_of};
 
-use crate::arrays::{first_fault, records_of, verdict_number, verdict_on};
+use crate::arrays::{first_fault, records_of_plain, verdict_number, verdict_over_opening};
 use crate::expected::{Found, found_of_verdict, without_expected};
 use crate::plain::{PlainOperation, PlainRecord, PlainWord, store_of};
 use physiological_order::{Memory, Verdict};
@@ -38,14 +38,14 @@ pub extern "C" fn tardis_c_check_history(
         *found = without_expected(fault);
         return 11;
     }
-    match history_on(alloc, opening, operations, records, found) {
+    match verdict_on_history(alloc, opening, operations, records, found) {
         Ok(verdict) => verdict_number(verdict),
         Err(AllocError) => 3,
     }
 }
 
 // The verdict on records that have no fault, and what is found of them.
-fn history_on(
+fn verdict_on_history(
     alloc: Global,
     opening: &[PlainWord],
     operations: &[PlainOperation],
@@ -59,15 +59,18 @@ fn history_on(
         IsFound (flat (words_of opening.now)) (map record_of records.now) verdict found.new) }
     ensures refused { OnErr result (found.new ≡ found.old) }
 {
-    let memory = memory_of(alloc, opening)?;
-    let records = records_of(alloc, records)?;
-    let verdict = verdict_on(alloc, &memory, operations, &records)?;
+    let memory = memory_of_opening_words(alloc, opening)?;
+    let records = records_of_plain(alloc, records)?;
+    let verdict = verdict_over_opening(alloc, &memory, operations, &records)?;
     *found = found_of_verdict(&memory, &records, verdict);
     Ok(verdict)
 }
 
 /// The memory that opens with these words.
-pub(crate) fn memory_of(alloc: Global, opening: &[PlainWord]) -> Result<Memory, AllocError>
+pub(crate) fn memory_of_opening_words(
+    alloc: Global,
+    opening: &[PlainWord],
+) -> Result<Memory, AllocError>
     ensures { IfOk result (λ memory. memory ≡ words_of opening.now) }
 {
     let mut memory = Memory::new(alloc);

@@ -67,7 +67,7 @@ pub extern "C" fn tardis_c_first_lack(
     if let Some(_fault) = first_fault(records) {
         return 11;
     }
-    match lack_of(alloc, operations, records) {
+    match find_first_lack(alloc, operations, records) {
         Ok(None) => 0,
         Ok(Some(found)) => {
             *lack = found;
@@ -78,7 +78,7 @@ pub extern "C" fn tardis_c_first_lack(
 }
 
 // What is missing, if anything is.
-fn lack_of(
+fn find_first_lack(
     alloc: Global,
     operations: &[PlainOperation],
     records: &[PlainRecord],
@@ -87,27 +87,27 @@ fn lack_of(
         (HaveAll (issued_of operations.now) (map record_of records.now))
         (IsLack (issued_of operations.now) (map record_of records.now))) }
 {
-    let issued = counts_of(alloc, operations)?;
-    let done = counts_of(alloc, records)?;
-    Ok(first_other(&issued, &done))
+    let issued = count_items_by_core(alloc, operations)?;
+    let done = count_items_by_core(alloc, records)?;
+    Ok(first_differing_core(&issued, &done))
 }
 
 // How many of the items are of each core, up to the greatest of these.
-fn counts_of<T: OfCore>(alloc: Global, items: &[T]) -> Result<Vec<u64>, AllocError>
+fn count_items_by_core<T: OfCore>(alloc: Global, items: &[T]) -> Result<Vec<u64>, AllocError>
     ensures { IfOk result (λ counts. (core : ℕ) →
         get_or counts.items core 0 ≡ count_by (λ item. T.core item == core) items.now) }
 {
     let mut counts: Vec<u64> = Vec::new(alloc);
     for item in items {
         let core = item.core() as usize;
-        widen(&mut counts, core + 1)?;
+        extend_counts(&mut counts, core + 1)?;
         counts[core] += 1;
     }
     Ok(counts)
 }
 
 // Counts of 0 behind the others, up to a number of counts.
-fn widen(counts: &mut Vec<u64>, number: usize) -> Result<(), AllocError>
+fn extend_counts(counts: &mut Vec<u64>, number: usize) -> Result<(), AllocError>
     ensures long { OnOk result (number ≤ length counts.new.items) }
     ensures same { OnOk result ((core : ℕ) →
         get_or counts.new.items core 0 ≡ get_or counts.old.items core 0) }
@@ -119,14 +119,14 @@ fn widen(counts: &mut Vec<u64>, number: usize) -> Result<(), AllocError>
 }
 
 // The first core of which the two counts differ.
-fn first_other(issued: &[u64], done: &[u64]) -> Option<Lack>
+fn first_differing_core(issued: &[u64], done: &[u64]) -> Option<Lack>
     ensures { MatchOption result
         ((core : ℕ) → get_or issued.now core 0 ≡ get_or done.now core 0)
         (IsFirstOther issued.now done.now) }
 {
-    for core in 0..greater(issued.len(), done.len()) {
-        let place = count_at(done, core);
-        if count_at(issued, core) != place {
+    for core in 0..greater_length(issued.len(), done.len()) {
+        let place = count_for_core(done, core);
+        if count_for_core(issued, core) != place {
             return Some(Lack {
                 core: core as u64,
                 place,
@@ -137,14 +137,14 @@ fn first_other(issued: &[u64], done: &[u64]) -> Option<Lack>
 }
 
 // The greater of two lengths.
-fn greater(first: usize, second: usize) -> usize
+fn greater_length(first: usize, second: usize) -> usize
     ensures { (first ≤ result) × (second ≤ result) }
 {
     if first < second { second } else { first }
 }
 
 // The count of a core.
-fn count_at(counts: &[u64], core: usize) -> u64
+fn count_for_core(counts: &[u64], core: usize) -> u64
     ensures { result ≡ get_or counts.now core 0 }
 {
     if core < counts.len() { counts[core] } else { 0 }

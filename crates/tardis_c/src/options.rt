@@ -70,7 +70,7 @@ pub(crate) fn machine_options(plain: &PlainOptions) -> MachineOptions
 }
 
 // In which order the events come.
-fn schedule(plain: &PlainOptions) -> Schedule
+fn schedule_of_options(plain: &PlainOptions) -> Schedule
     ensures { result ≡ (run_options plain.now).schedule }
 {
     if plain.by_seed != 0 {
@@ -87,7 +87,7 @@ fn run_options(plain: &PlainOptions) -> RunOptions
     ensures { result ≡ run_options plain.now }
 {
     RunOptions {
-        schedule: schedule(plain),
+        schedule: schedule_of_options(plain),
         seed: plain.seed,
         workers: 1,
         limit: plain.limit,
@@ -118,7 +118,7 @@ pub(crate) fn ends_options(states: u64, orders: u32, json: u32) -> EndsOptions
 }
 
 // After how many operations each there is a row of counts.
-fn every(plain: &PlainOptions) -> Option<u64>
+fn operations_per_row(plain: &PlainOptions) -> Option<u64>
     ensures { result ≡ every_of plain.now.every }
 {
     if plain.every == 0 {
@@ -134,7 +134,7 @@ pub(crate) fn trace_options(plain: &PlainOptions) -> TraceOptions
     TraceOptions {
         records: plain.records != 0,
         counts: plain.counts != 0,
-        every: every(plain),
+        every: operations_per_row(plain),
         json: plain.json != 0,
         run: run_options(plain),
     }

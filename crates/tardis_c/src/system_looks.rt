@@ -51,7 +51,7 @@ fn totals_of(system: &System) -> Totals
 }
 
 // The number of the message at an index of those in flight.
-fn number_at(system: &System, index: u32) -> Option<u64>
+fn message_number_at(system: &System, index: u32) -> Option<u64>
     ensures { result ≡ slice_get (map (λ x. x.0) system.now.mail.messages) index }
 {
     match system.message(index) {
@@ -83,7 +83,7 @@ fn record_at(system: &System, number: usize) -> Option<PlainRecord>
 }
 
 // A core's open operation, if there is the core.
-fn opened(system: &System, core: u32) -> Option<PlainOpen>
+fn open_operation_of_core(system: &System, core: u32) -> Option<PlainOpen>
     ensures { result ≡ if_below core (length system.now.cores) (open_of core (open_op system.now core)) }
 {
     if core >= system.cores() {
@@ -93,7 +93,7 @@ fn opened(system: &System, core: u32) -> Option<PlainOpen>
 }
 
 // The copy to evict, if there is the core.
-fn victim(system: &System, core: u32, line: u64) -> Option<Place>
+fn place_of_victim(system: &System, core: u32, line: u64) -> Option<Place>
     ensures { result ≡ if_below core (length system.now.cores) (victim_of (victim system.now core line)) }
 {
     if core >= system.cores() {
@@ -103,7 +103,7 @@ fn victim(system: &System, core: u32, line: u64) -> Option<Place>
 }
 
 // The lines of a core's copies, if there is the core.
-fn copies_of(system: &System, core: u32) -> Option<Result<Vec<LineNo>, AllocError>>
+fn lines_of_copies(system: &System, core: u32) -> Option<Result<Vec<LineNo>, AllocError>>
     ensures { AreLines result core (length system.now.cores) (sorted (copies system.now core)) }
 {
     if core >= system.cores() {
@@ -113,7 +113,7 @@ fn copies_of(system: &System, core: u32) -> Option<Result<Vec<LineNo>, AllocErro
 }
 
 // The lines of a bank's entries, if there is the bank.
-fn entries_of(system: &System, bank: u32) -> Option<Result<Vec<LineNo>, AllocError>>
+fn lines_of_entries(system: &System, bank: u32) -> Option<Result<Vec<LineNo>, AllocError>>
     ensures { AreLines result bank (length system.now.banks) (sorted (entries system.now bank)) }
 {
     if bank >= system.banks() {
@@ -123,7 +123,7 @@ fn entries_of(system: &System, bank: u32) -> Option<Result<Vec<LineNo>, AllocErr
 }
 
 // The smaller of two lengths.
-fn smaller(first: usize, second: usize) -> usize
+fn smaller_length(first: usize, second: usize) -> usize
     ensures { (result ≡ first) × (first ≤ second) ⊎ (result ≡ second) × (second ≤ first) }
 {
     if first < second { first } else { second }
@@ -133,7 +133,7 @@ fn smaller(first: usize, second: usize) -> usize
 fn overwrite_front(found: &[LineNo], lines: &mut [u64])
     ensures { lines.new ≡ overwrite_front found.now lines.old }
 {
-    for at in 0..smaller(found.len(), lines.len()) {
+    for at in 0..smaller_length(found.len(), lines.len()) {
         let line = found[at];
         lines[at] = line.0;
     }
@@ -203,7 +203,7 @@ pub extern "C" fn tardis_c_system_message_number(
     let Some(system) = take_out(alloc, machine) else {
         return 16;
     };
-    let found = number_at(&system, index);
+    let found = message_number_at(&system, index);
     put_back(machine, system);
     write_found(found, out)
 }
@@ -260,7 +260,7 @@ pub extern "C" fn tardis_c_system_open_operation(
     let Some(system) = take_out(alloc, machine) else {
         return 16;
     };
-    let found = opened(&system, core);
+    let found = open_operation_of_core(&system, core);
     put_back(machine, system);
     write_found(found, out)
 }
@@ -280,7 +280,7 @@ pub extern "C" fn tardis_c_system_victim(
     let Some(system) = take_out(alloc, machine) else {
         return 16;
     };
-    let found = victim(&system, core, line);
+    let found = place_of_victim(&system, core, line);
     put_back(machine, system);
     write_found(found, out)
 }
@@ -358,7 +358,7 @@ pub extern "C" fn tardis_c_system_copies(
     let Some(system) = take_out(alloc, machine) else {
         return 16;
     };
-    let found = copies_of(&system, core);
+    let found = lines_of_copies(&system, core);
     put_back(machine, system);
     write_lines(found, lines, count)
 }
@@ -378,7 +378,7 @@ pub extern "C" fn tardis_c_system_entries(
     let Some(system) = take_out(alloc, machine) else {
         return 16;
     };
-    let found = entries_of(&system, bank);
+    let found = lines_of_entries(&system, bank);
     put_back(machine, system);
     write_lines(found, lines, count)
 }

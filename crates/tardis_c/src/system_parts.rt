@@ -182,7 +182,7 @@ pub(crate) fn c_answer(answer: &Answer) -> CAnswer
 }
 
 // The words of a line.
-fn all_words(words: &Words) -> [u64; 8]
+fn array_of_words(words: &Words) -> [u64; 8]
     ensures { result ≡ words.now }
 {
     [
@@ -218,7 +218,7 @@ fn carried_line(kind: u64, line: &TimedLine) -> Carried
     Carried {
         wts: line.wts,
         rts: line.rts,
-        words: all_words(&line.words),
+        words: array_of_words(&line.words),
         ..carried_nothing(kind)
     }
 }
@@ -238,7 +238,7 @@ fn carried_words(kind: u64, words: &Words) -> Carried
     ensures { result ≡ record (carried_nothing kind) { words = words.now } }
 {
     Carried {
-        words: all_words(words),
+        words: array_of_words(words),
         ..carried_nothing(kind)
     }
 }

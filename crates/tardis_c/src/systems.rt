@@ -7,7 +7,7 @@ ghost use Rattle.machine_table.specs.SetUp.{is_good};
 ghost use Rattle.tardis_c.specs.Systems.{Issues, Opens, OpensUnless, Steps};
 
 use crate::arrays::first_fault;
-use crate::histories::memory_of;
+use crate::histories::memory_of_opening_words;
 use crate::options::{PlainOptions, machine_options};
 use crate::plain::{Plain, PlainOperation, PlainWord, op_of};
 use crate::system_parts::{CAnswer, c_answer};
@@ -18,7 +18,11 @@ use std::alloc::{AllocError, Global};
 use worker_driver::config_of;
 
 // A machine on the heap.
-fn new_machine(alloc: Global, config: Config, memory: Memory) -> Result<Box<System>, AllocError>
+fn new_boxed_machine(
+    alloc: Global,
+    config: Config,
+    memory: Memory,
+) -> Result<Box<System>, AllocError>
     requires { is_good config ≡ true }
     ensures { IfOk result (λ system. system.value ≡ at_start config memory) }
 {
@@ -29,7 +33,7 @@ fn new_machine(alloc: Global, config: Config, memory: Memory) -> Result<Box<Syst
 }
 
 // Opens a machine in a handle that has none.
-fn open(
+fn open_in_handle(
     alloc: Global,
     machine: &mut Handle,
     cores: u32,
@@ -45,10 +49,10 @@ fn open(
     let Some(config) = config_of(&machine_options(options), cores) else {
         return 6;
     };
-    let Ok(memory) = memory_of(alloc, opening) else {
+    let Ok(memory) = memory_of_opening_words(alloc, opening) else {
         return 3;
     };
-    match new_machine(alloc, config, memory) {
+    match new_boxed_machine(alloc, config, memory) {
         Ok(system) => {
             put_back(machine, system);
             0
@@ -75,11 +79,11 @@ pub extern "C" fn tardis_c_system_open(
         put_back(machine, system);
         return 17;
     }
-    open(alloc, machine, cores, options, opening)
+    open_in_handle(alloc, machine, cores, options, opening)
 }
 
 // One event, and its answer: 0, or 16 without a machine.
-fn step(alloc: Global, machine: &mut Handle, event: Event, answer: &mut CAnswer) -> u32
+fn step_in_handle(alloc: Global, machine: &mut Handle, event: Event, answer: &mut CAnswer) -> u32
     ensures { Steps machine.old.owner.held machine.new.owner.held answer.old answer.new result event }
 {
     let Some(mut system) = take_out(alloc, machine) else {
@@ -106,7 +110,7 @@ pub extern "C" fn tardis_c_system_issue(
     if operation.fault() != 0 {
         return 10;
     }
-    step(
+    step_in_handle(
         alloc,
         machine,
         Event::Issue(operation.core, op_of(operation)),
@@ -125,7 +129,7 @@ pub extern "C" fn tardis_c_system_attempt(
     ensures { Steps machine.old.owner.held machine.new.owner.held answer.old answer.new result
         (Attempt core) }
 {
-    step(alloc, machine, Event::Attempt(core), answer)
+    step_in_handle(alloc, machine, Event::Attempt(core), answer)
 }
 
 /// A message in flight is delivered to its part.
@@ -139,7 +143,7 @@ pub extern "C" fn tardis_c_system_deliver(
     ensures { Steps machine.old.owner.held machine.new.owner.held answer.old answer.new result
         (Deliver number) }
 {
-    step(alloc, machine, Event::Deliver(MsgNo(number)), answer)
+    step_in_handle(alloc, machine, Event::Deliver(MsgNo(number)), answer)
 }
 
 /// A copy of a line is evicted from a core's cache.
@@ -154,7 +158,7 @@ pub extern "C" fn tardis_c_system_evict_copy(
     ensures { Steps machine.old.owner.held machine.new.owner.held answer.old answer.new result
         (EvictCache core line) }
 {
-    step(
+    step_in_handle(
         alloc,
         machine,
         Event::EvictCache(core, LineNo(line)),
@@ -174,7 +178,7 @@ pub extern "C" fn tardis_c_system_evict_entry(
     ensures { Steps machine.old.owner.held machine.new.owner.held answer.old answer.new result
         (EvictBank bank line) }
 {
-    step(alloc, machine, Event::EvictBank(bank, LineNo(line)), answer)
+    step_in_handle(alloc, machine, Event::EvictBank(bank, LineNo(line)), answer)
 }
 
 /// A core advances its time by one.
@@ -188,7 +192,7 @@ pub extern "C" fn tardis_c_system_advance(
     ensures { Steps machine.old.owner.held machine.new.owner.held answer.old answer.new result
         (Advance core) }
 {
-    step(alloc, machine, Event::Advance(core), answer)
+    step_in_handle(alloc, machine, Event::Advance(core), answer)
 }
 
 /// Gives the machine's memory back; the handle has none then. Without a machine the call does nothing.

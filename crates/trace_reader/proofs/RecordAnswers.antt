@@ -26,6 +26,10 @@ pub records-unique : (bytes : List ℕ) (one other : List Record) → AreRecords
     one ≡ other
 records-unique bytes one other s t = told-once record_said Tells Cause records-meant tt bytes one other s.0 s.1 t.1
 
+-- a text of the grammar is read as the records that it stands for
+pub record-reads : (bytes : List ℕ) (records : List Record) → AreRecords bytes records → records_at bytes ≡ Ok records
+record-reads bytes records t = lines-only record_said Tells Cause records-meant tt (lines_of bytes) records t.0 t.1
+
 pub record-only : {Z : Type 0} (r : Result (Vec Record Z) TraceError) (a : Option (List ℕ)) (old new : ℕ) →
     IfOk r (λ records. IfSome a (λ bytes. records_at bytes ≡ Ok records.items)) →
     IfErr r (Refused records_in old new a) →
@@ -36,6 +40,6 @@ record-only (Ok ys) (Some bytes) old new h k = λ records t.
 record-only (Err e) (Some bytes) old new h (inl k) = λ records t. inl k.0
 record-only (Err e) (Some bytes) old new h (inr (failures, inl k)) = λ records t. inr k.0
 record-only (Err e) (Some bytes) old new h (inr (failures, inr k)) = λ records t.
-    let again = lines-only record_said Tells Cause records-meant tt (lines_of bytes) records t.0 t.1 in
+    let again = record-reads bytes records t in
     let refused : records_at bytes ≡ Err e = k.1 in
     absurd (cc (again, refused))

@@ -7,5 +7,6 @@ returns c =
     let every : c.range-every.result ≡ from_one = rw c.value_parser.ensures at c.range-every.ensures in
     let sparse = rw every at c.option_without_default.ensures in
     λ app had.
-    c.with.ensures _ c.flag-3.ensures _ (c.with-three.ensures _ sparse _ (c.with-two.ensures _ c.flag-2.ensures _
-    (c.with-one.ensures _ c.flag.ensures app had)))
+    c.with_argument.ensures _ c.flag_argument-3.ensures _ (c.with_argument-three.ensures _ sparse _
+    (c.with_argument-two.ensures _ c.flag_argument-2.ensures _
+    (c.with_argument-one.ensures _ c.flag_argument.ensures app had)))

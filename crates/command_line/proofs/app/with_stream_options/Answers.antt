@@ -9,5 +9,5 @@ returns c =
     let last : c.range-millions.result ≡ up_to 4294967295 = rw c.value_parser-2.ensures at c.range-millions.ensures in
     let millions = rw last at c.option_without_default-2.ensures in
     λ app had.
-    c.with.ensures _ millions _ (c.with-three.ensures _ c.flag-2.ensures _
-    (c.with-two.ensures _ cores _ (c.with-one.ensures _ c.flag.ensures app had)))
+    c.with_argument.ensures _ millions _ (c.with_argument-three.ensures _ c.flag_argument-2.ensures _
+    (c.with_argument-two.ensures _ cores _ (c.with_argument-one.ensures _ c.flag_argument.ensures app had)))

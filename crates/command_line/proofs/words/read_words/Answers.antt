@@ -8,7 +8,7 @@ use Rattle.command_line.proofs.words.read_words.Goals as goal
 pub returns-in-Err-2-clause-refused : goal.returns-in-Err-2-clause-refused
 returns-in-Err-2-clause-refused c =
     let e = c.in-Ok.ensures.app in
-    c.refused.ensures (map (λ w. w.now) c.args.words.now) (
+    c.error_of_clap_refusal.ensures (map (λ w. w.now) c.args.words.now) (
       e.0,
       e.1,
       has_fault _ e.0 _ c.in-Err.error e.2 c.in-Err.ensures.kinds (λ h.
@@ -17,28 +17,28 @@ returns-in-Err-2-clause-refused c =
           absurd (true≢false (sym bad))),
     )
 
-pub job_of-requires : goal.job_of-requires
-job_of-requires c =
+pub job_of_command-requires : goal.job_of_command-requires
+job_of_command-requires c =
     let e = c.in-Ok.ensures.app in
     one_is_named e.0 (map (λ w. w.now) c.args.words.now) _ _
     (no_fault _ e.0 _ e.2 c.in-Ok-try_get_matches_from.ensures.kinds)
     (found_is _ e.0 _ _ _ _ e.2 c.in-Ok-try_get_matches_from.ensures.matches c.in-Some.ensures.name
     c.in-Some.ensures.rows)
 
-pub returns-in-Ok-job_of-clause-job : goal.returns-in-Ok-job_of-clause-job
-returns-in-Ok-job_of-clause-job c =
+pub returns-in-Ok-job_of_command-clause-job : goal.returns-in-Ok-job_of_command-clause-job
+returns-in-Ok-job_of_command-clause-job c =
     let e = c.in-Ok.ensures.app in (
       (c.in-Some.name.now, rows_of (found_of c.in-Some.inner.now)),
       are_taken _ e.0 (map (λ w. w.now) c.args.words.now) _ _ _ e.1 e.2 c.in-Ok-try_get_matches_from.ensures.kinds
           c.in-Ok-try_get_matches_from.ensures.matches c.in-Some.ensures.name c.in-Some.ensures.rows,
-      c.in-Ok-job_of.ensures.job,
+      c.in-Ok-job_of_command.ensures.job,
     )
 
 pub returns-clause-refused : goal.returns-clause-refused
 returns-clause-refused c =
     let e = c.in-Ok.ensures.app in
-    c.refused_for.ensures (map (λ w. w.now) c.args.words.now)
+    c.error_of_conflict.ensures (map (λ w. w.now) c.args.words.now)
     (c.in-Some.name.now, rows_of (found_of c.in-Some.inner.now))
     (are_taken _ e.0 (map (λ w. w.now) c.args.words.now) _ _ _ e.1 e.2 c.in-Ok-try_get_matches_from.ensures.kinds
     c.in-Ok-try_get_matches_from.ensures.matches c.in-Some.ensures.name c.in-Some.ensures.rows)
-    c.in-Err-job_of.ensures.conflict
+    c.in-Err-job_of_command.ensures.conflict

@@ -40,5 +40,6 @@ pub returns-in-Some-clause-conflict : goal.returns-in-Some-clause-conflict
 returns-in-Some-clause-conflict c =
     let rows = rows_of (found_of c.args.matches.now) in
     let tells : TellsAsked rows c.in_ok-asked.asked =
-    subst (λ (o : Option Asked). IfSome o (TellsAsked rows)) c.in_ok-asked.ensures.ok_part c.asked_of.ensures.asked in
+    subst (λ (o : Option Asked). IfSome o (TellsAsked rows)) c.in_ok-asked.ensures.ok_part
+    c.asked_trace_run.ensures.asked in
     asks rows c.in-Some.why c.in_ok-asked.asked tells (sym c.conflict_of.ensures ∙ c.in-Some.is)

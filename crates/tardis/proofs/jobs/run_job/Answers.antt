@@ -15,18 +15,18 @@ pub returns-in-Stream : goal.returns-in-Stream
 returns-in-Stream g c = rw c.in-Stream.is (
   c.open-in-Stream.result,
   c.open-in-Stream.ensures,
-  c.stream_opened.ensures.run,
-  c.stream_opened.ensures.quiet,
+  c.stream_opened_trace.ensures.run,
+  c.stream_opened_trace.ensures.quiet,
 )
 
 pub returns-in-Check : goal.returns-in-Check
 returns-in-Check g c = rw c.in-Check.is (
-  c.open_named-opening.result,
-  c.open_named-opening.ensures,
+  c.open_file_if_named-opening.result,
+  c.open_file_if_named-opening.ensures,
   c.open-trace.result,
   c.open-records.result,
   c.open-trace.ensures,
   c.open-records.ensures,
-  c.check_files.ensures,
+  c.check_opened_files.ensures,
   refl,
 )

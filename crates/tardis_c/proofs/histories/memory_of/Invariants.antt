@@ -1,6 +1,0 @@
-use Rattle.std.proofs.Common.{◌≡◌, take}
-use Rattle.tardis_c.specs.Plain.{words_of}
-use Rattle.tardis_c.proofs.histories.memory_of.Given as goal
-
-abbrev pub invariant-loop-word : goal.invariant-loop-word
-invariant-loop-word l = l.memory ≡ words_of (take l.word-index l.opening)

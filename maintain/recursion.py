@@ -18,8 +18,8 @@ DEEPEST, LONGEST = "conditions nest at most 64 deep", "conditions have at most 2
 BOUNDED = {
     "litmus_parser::expressions::expression": DEEPEST,
     "litmus_parser::expressions::factor": DEEPEST,
-    "litmus_reader::ends::holds": LONGEST,
-    "litmus_reader::reading::see": LONGEST,
+    "litmus_reader::ends::expression_holds": LONGEST,
+    "litmus_reader::reading::add_seen_names": LONGEST,
 }
 NOT_PRODUCTION = ("test_", "bench", "play_", "event_text", "guide_uses")
 CALL = re.compile(r"\b(call|jmp) +[\da-f]+ <(?!.*\+0x[\da-f]+>$)(.+)>$")

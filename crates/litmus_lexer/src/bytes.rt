@@ -25,14 +25,14 @@ pub fn is_name_byte(b: u8) -> bool
     matches!(b, b'0'..=b'9' | b'A'..=b'Z' | b'a'..=b'z' | b'_')
 }
 
-pub fn blank_count(bytes: &[u8]) -> usize
+pub fn count_leading_blanks(bytes: &[u8]) -> usize
     ensures count { result ≡ prefix_len is_blank bytes.now }
     ensures within { result ≤ length bytes.now }
 {
     bytes.iter().take_while(|b| is_blank(**b)).count()
 }
 
-pub fn name_count(bytes: &[u8]) -> usize
+pub fn count_leading_name_bytes(bytes: &[u8]) -> usize
     ensures count { result ≡ prefix_len is_name_byte bytes.now }
     ensures within { result ≤ length bytes.now }
 {

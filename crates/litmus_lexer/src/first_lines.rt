@@ -5,7 +5,7 @@ ghost use Rattle.std.specs.List.{prefix_len};
 ghost use Rattle.litmus_lexer.specs.FirstLines.{IsTitle, is_title_byte, title_of, behind_riscv, is_header_line};
 ghost use Rattle.litmus_lexer.specs.FirstLines.{is_quoted, is_setting, begins_block};
 
-use crate::bytes::{blank_count, name_count};
+use crate::bytes::{count_leading_blanks, count_leading_name_bytes};
 use crate::limits::LONGEST_TITLE;
 use crate::signs::{EQUALS, OPENING_BRACE};
 
@@ -15,7 +15,7 @@ fn is_title_byte(b: u8) -> bool
     matches!(b, b'0'..=b'9' | b'A'..=b'Z' | b'a'..=b'z' | b'_' | b'+' | b'.' | b'-' | b'[' | b']')
 }
 
-fn title_count(bytes: &[u8]) -> usize
+fn count_leading_title_bytes(bytes: &[u8]) -> usize
     ensures count { result ≡ prefix_len is_title_byte bytes.now }
     ensures within { result ≤ length bytes.now }
 {
@@ -23,7 +23,7 @@ fn title_count(bytes: &[u8]) -> usize
 }
 
 /// How many bytes stand before the first `"`.
-fn quoted_count(bytes: &[u8]) -> usize
+fn count_bytes_before_quote(bytes: &[u8]) -> usize
     ensures count { result ≡ prefix_len (λ b. not (b == 34)) bytes.now }
     ensures within { result ≤ length bytes.now }
 {
@@ -41,18 +41,18 @@ fn after_riscv(line: &[u8]) -> Option<&[u8]>
 }
 
 #[tactic(auto, unfolding(crate::specs::FirstLines::title_of))]
-fn title(line: &[u8]) -> Option<&[u8]>
+fn title_of_line(line: &[u8]) -> Option<&[u8]>
     ensures { option_map (λ r. r.now) result ≡ title_of line.now }
 {
-    let (_, line) = line.split_at(blank_count(line));
+    let (_, line) = line.split_at(count_leading_blanks(line));
     let line = after_riscv(line)?;
-    let gap = blank_count(line);
+    let gap = count_leading_blanks(line);
     if gap == 0 {
         return None;
     }
     let (_, line) = line.split_at(gap);
-    let (name, rest) = line.split_at(title_count(line));
-    if name.is_empty() || name.len() > LONGEST_TITLE || blank_count(rest) != rest.len() {
+    let (name, rest) = line.split_at(count_leading_title_bytes(line));
+    if name.is_empty() || name.len() > LONGEST_TITLE || count_leading_blanks(rest) != rest.len() {
         return None;
     }
     Some(name)
@@ -65,32 +65,32 @@ pub fn read_title(line: &[u8]) -> Option<&[u8]>
         (λ name. IsTitle line.now name.now) }
     ensures exact { option_map (λ r. r.now) result ≡ title_of line.now }
 {
-    title(line)
+    title_of_line(line)
 }
 
 /// A string between two `"` with no other `"`, and blanks after it.
-fn is_quoted(text: &[u8]) -> bool
+fn is_quoted_string(text: &[u8]) -> bool
     ensures { result ≡ is_quoted text.now }
 {
     let Some((&b'"', text)) = text.split_first() else {
         return false;
     };
-    let (_, rest) = text.split_at(quoted_count(text));
+    let (_, rest) = text.split_at(count_bytes_before_quote(text));
     match rest {
-        [_, rest @ ..] => blank_count(rest) == rest.len(),
+        [_, rest @ ..] => count_leading_blanks(rest) == rest.len(),
         [] => false,
     }
 }
 
 /// A letter followed by letters, digits and `_`, then blanks, then `=`.
-fn is_setting(text: &[u8]) -> bool
+fn is_key_value_line(text: &[u8]) -> bool
     ensures { result ≡ is_setting text.now }
 {
     if !matches!(text, [b'A'..=b'Z' | b'a'..=b'z', ..]) {
         return false;
     }
-    let (_, rest) = text.split_at(name_count(text));
-    let (_, rest) = rest.split_at(blank_count(rest));
+    let (_, rest) = text.split_at(count_leading_name_bytes(text));
+    let (_, rest) = rest.split_at(count_leading_blanks(rest));
     matches!(rest, [EQUALS, ..])
 }
 
@@ -98,14 +98,14 @@ fn is_setting(text: &[u8]) -> bool
 pub fn is_header_line(line: &[u8]) -> bool
     ensures { result ≡ is_header_line line.now }
 {
-    let (_, text) = line.split_at(blank_count(line));
-    text.is_empty() || is_quoted(text) || is_setting(text)
+    let (_, text) = line.split_at(count_leading_blanks(line));
+    text.is_empty() || is_quoted_string(text) || is_key_value_line(text)
 }
 
 /// Whether a line begins the initial block: its first byte after blanks is `{`.
 pub fn begins_block(line: &[u8]) -> bool
     ensures { result ≡ begins_block line.now }
 {
-    let (_, text) = line.split_at(blank_count(line));
+    let (_, text) = line.split_at(count_leading_blanks(line));
     matches!(text, [OPENING_BRACE, ..])
 }

@@ -25,4 +25,4 @@ pub use signs::{
     OPENING_PARENTHESIS, SEMICOLON,
 };
 pub use tokens::{Token, next_token};
-pub use words::{is_location, is_number, number, register, small};
+pub use words::{capped_number, is_location, is_number, register_number, small_number};

@@ -5,7 +5,7 @@ ghost use Rattle.std.specs.List.{prefix_len};
 ghost use Rattle.litmus_lexer.specs.Pieces.{is_letter, is_slash, pieces_of};
 ghost use Rattle.litmus_lexer.specs.TokenPieces.{piece_of};
 
-use crate::bytes::blank_count;
+use crate::bytes::count_leading_blanks;
 
 /// One piece of a text.
 #[derive(Clone, Copy, Debug)]
@@ -16,7 +16,7 @@ pub enum Token<'a> {
     LineEnd,
 }
 
-fn is_letter(b: u8) -> bool
+fn is_word_byte(b: u8) -> bool
     ensures { result ≡ is_letter b }
 {
     matches!(b, b'0'..=b'9' | b'A'..=b'Z' | b'a'..=b'z' | b'_' | b'.' | b'~')
@@ -28,14 +28,14 @@ fn is_slash(b: u8) -> bool
     b == b'/' || b == b'\\'
 }
 
-fn letter_count(bytes: &[u8]) -> usize
+fn count_leading_word_bytes(bytes: &[u8]) -> usize
     ensures count { result ≡ prefix_len is_letter bytes.now }
     ensures within { result ≤ length bytes.now }
 {
-    bytes.iter().take_while(|b| is_letter(**b)).count()
+    bytes.iter().take_while(|b| is_word_byte(**b)).count()
 }
 
-fn slash_count(bytes: &[u8]) -> usize
+fn count_leading_slashes(bytes: &[u8]) -> usize
     ensures count { result ≡ prefix_len is_slash bytes.now }
     ensures within { result ≤ length bytes.now }
 {
@@ -48,15 +48,15 @@ pub fn next_token(bytes: &[u8]) -> Option<(Token<'_>, &[u8])>
         (λ r. pieces_of bytes.now ≡ piece_of r.0 ∷ pieces_of r.1.now) }
     ensures shorter { IfSome result (λ r. length r.1.now < length bytes.now) }
 {
-    let (_, bytes) = bytes.split_at(blank_count(bytes));
+    let (_, bytes) = bytes.split_at(count_leading_blanks(bytes));
     let (&first, after) = bytes.split_first()?;
     if first == b'\n' {
         return Some((Token::LineEnd, after));
     }
-    let len = if is_letter(first) {
-        letter_count(bytes)
+    let len = if is_word_byte(first) {
+        count_leading_word_bytes(bytes)
     } else if is_slash(first) {
-        slash_count(bytes)
+        count_leading_slashes(bytes)
     } else {
         return Some((Token::Sign(first), after));
     };

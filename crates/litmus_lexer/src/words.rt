@@ -23,7 +23,7 @@ pub fn is_number(word: &[u8]) -> bool
 }
 
 /// The value of digits if it is below `VALUE_BOUND`, and else `VALUE_BOUND`.
-pub fn number(word: &[u8]) -> u32
+pub fn capped_number(word: &[u8]) -> u32
     ensures { result ≡ min (value_of_digits word.now) VALUE_BOUND }
 {
     let mut value = 0u64;
@@ -34,7 +34,7 @@ pub fn number(word: &[u8]) -> u32
 }
 
 /// A number of one or two digits up to a limit, at least 9, without a leading zero.
-pub fn small(word: &[u8], most: u8) -> Option<u8>
+pub fn small_number(word: &[u8], most: u8) -> Option<u8>
     ensures { result ≡ small_of most word.now }
 {
     match word {
@@ -48,11 +48,11 @@ pub fn small(word: &[u8], most: u8) -> Option<u8>
 }
 
 /// The number of a register, 0 to 31.
-pub fn register(word: &[u8]) -> Option<u8>
+pub fn register_number(word: &[u8]) -> Option<u8>
     ensures { result ≡ register_of word.now }
 {
     match word {
-        [b'x', number @ ..] => small(number, LAST_REGISTER),
+        [b'x', number @ ..] => small_number(number, LAST_REGISTER),
         _ => None,
     }
 }

@@ -10,16 +10,16 @@ ghost use Rattle.litmus_parser.specs.Condition.{start};
 ghost use Rattle.litmus_parser.specs.Names.{address_of};
 ghost use Rattle.litmus_parser.specs.Verdicts.{value_register};
 
-use crate::items::{Opening, is_address, item_opening};
+use crate::items::{Opening, is_address_register, item_opening};
 use crate::syntax::Item;
 use litmus_lexer::{
-    Cursor, Kind, Locations, MOST_ATOMS, OPENING_PARENTHESIS, ReadError, Token, register,
+    Cursor, Kind, Locations, MOST_ATOMS, OPENING_PARENTHESIS, ReadError, Token, register_number,
 };
-use piece_forms::ahead;
+use piece_forms::next_piece;
 
 /// What a factor begins with, or nothing for a parenthesis; how many atoms there are with it; and
 /// the position after it.
-pub fn factor_start<'a>(
+pub fn read_factor_start<'a>(
     threads: u8,
     depth: u8,
     locations: &mut Locations,
@@ -31,7 +31,7 @@ pub fn factor_start<'a>(
         cursor.entry.line cursor.entry.pieces) }
     ensures deep { IfOk result (λ r. r.0 ≡ None → 0 < depth) }
 {
-    match ahead(&cursor) {
+    match next_piece(&cursor) {
         (Some(Token::Word(word)), after) => {
             let start = item_opening(threads, locations, word, &after, Kind::BadCondition)?;
             if atoms >= MOST_ATOMS {
@@ -52,7 +52,7 @@ pub fn factor_start<'a>(
 
 /// A register of the thread that holds values.
 #[tactic(auto, unfolding(crate::specs::Verdicts::value_in))]
-pub fn value_register<'a>(
+pub fn read_value_register<'a>(
     items: &[Item],
     thread: u8,
     cursor: Cursor<'a>,
@@ -61,11 +61,11 @@ pub fn value_register<'a>(
         (one (word BadCondition (value_register (address_of items.now) thread)))
         cursor.entry.line cursor.entry.pieces) }
 {
-    match ahead(&cursor) {
-        (Some(Token::Word(word)), after) => match register(word) {
+    match next_piece(&cursor) {
+        (Some(Token::Word(word)), after) => match register_number(word) {
             None | Some(0) => Err(after.fault(Kind::BadCondition)),
             Some(register) => {
-                if is_address(items, thread, register) {
+                if is_address_register(items, thread, register) {
                     return Err(after.fault(Kind::AddressAsValue));
                 }
                 Ok((register, after))

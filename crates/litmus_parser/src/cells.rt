@@ -11,13 +11,13 @@ ghost use Rattle.litmus_parser.specs.Names.{address_of};
 ghost use Rattle.litmus_parser.specs.Verdicts.{meaning};
 ghost use Rattle.litmus_parser.specs.Table.{ends_here, has_shape, filled, cell, column, row};
 
-use crate::forms::{Form, read_form};
+use crate::forms::{Form, read_instruction_form};
 use crate::instructions::instruction_of_form;
 use crate::syntax::{Cell, Instruction, Item, Width};
 use litmus_lexer::{BAR, Cursor, Kind, ReadError, SEMICOLON, Token, next_token};
-use piece_forms::{end_line, first};
+use piece_forms::{expect_line_end, next_piece_or_line_end};
 
-fn ends_line(text: &[u8]) -> bool
+fn is_at_line_end(text: &[u8]) -> bool
     ensures { result ≡ ends_here (pieces_of text.now) }
 {
     matches!(next_token(text), None | Some((Token::LineEnd, _)))
@@ -25,7 +25,7 @@ fn ends_line(text: &[u8]) -> bool
 
 /// Whether a line has so many `|`, then a `;`, and nothing after it.
 #[tactic(auto, unfolding(crate::specs::Table::has_shape))]
-fn has_shape(bars: u8, text: &[u8]) -> bool
+fn has_row_shape(bars: u8, text: &[u8]) -> bool
     ensures { result ≡ has_shape bars (pieces_of text.now) }
 {
     let mut left = bars;
@@ -33,7 +33,7 @@ fn has_shape(bars: u8, text: &[u8]) -> bool
     while let Some((token, after)) = next_token(rest) {
         match token {
             Token::LineEnd => return false,
-            Token::Sign(SEMICOLON) => return left == 0 && ends_line(after),
+            Token::Sign(SEMICOLON) => return left == 0 && is_at_line_end(after),
             Token::Sign(BAR) => {
                 if left == 0 {
                     return false;
@@ -55,18 +55,18 @@ fn push_cell(cells: &mut Vec<Cell>, cell: Cell) -> Result<(), ReadError>
 }
 
 /// Whether the cell ends with its sign here; and the position after it.
-fn blank<'a>(closing: u8, cursor: Cursor<'a>) -> (bool, Cursor<'a>)
+fn skip_cell_end<'a>(closing: u8, cursor: Cursor<'a>) -> (bool, Cursor<'a>)
     ensures { reads (perhaps InLine (is_sign closing)) cursor.entry.line cursor.entry.pieces
         ≡ Ok (result.0, result.1.line, result.1.pieces) }
 {
-    match first(&cursor) {
+    match next_piece_or_line_end(&cursor) {
         (Some(Token::Sign(sign)), after) if sign == closing => (true, after),
         _ => (false, cursor),
     }
 }
 
 /// What a form means, and the position after the sign that ends its cell.
-fn close<'a>(
+fn read_cell_end<'a>(
     items: &[Item],
     thread: u8,
     width: Option<Width>,
@@ -81,7 +81,7 @@ fn close<'a>(
         else Refuses BadInstruction))
         cursor.entry.line cursor.entry.pieces) }
 {
-    match first(&cursor) {
+    match next_piece_or_line_end(&cursor) {
         (Some(Token::Sign(sign)), after) if sign == closing => {
             let meant = instruction_of_form(items, thread, width, form, &cursor)?;
             Ok((meant, after))
@@ -92,7 +92,7 @@ fn close<'a>(
 
 /// An instruction and the sign that ends its cell.
 #[tactic(auto, unfolding(crate::specs::Table::filled))]
-fn instruction<'a>(
+fn read_instruction<'a>(
     items: &[Item],
     cells: &mut Vec<Cell>,
     thread: u8,
@@ -104,8 +104,8 @@ fn instruction<'a>(
         (reads (filled (address_of items.now) thread closing (cells.old.items, width))
         cursor.entry.line cursor.entry.pieces) }
 {
-    let (form, after) = read_form(cursor)?;
-    let ((instruction, width), after) = close(items, thread, width, form, closing, after)?;
+    let (form, after) = read_instruction_form(cursor)?;
+    let ((instruction, width), after) = read_cell_end(items, thread, width, form, closing, after)?;
     push_cell(
         cells,
         Cell {
@@ -118,7 +118,7 @@ fn instruction<'a>(
 
 /// A blank cell or an instruction, and the sign that ends it.
 #[tactic(auto, unfolding(crate::specs::Table::cell))]
-fn cell<'a>(
+fn read_cell<'a>(
     items: &[Item],
     cells: &mut Vec<Cell>,
     thread: u8,
@@ -130,16 +130,16 @@ fn cell<'a>(
         (reads (cell (address_of items.now) thread closing (cells.old.items, width))
         cursor.entry.line cursor.entry.pieces) }
 {
-    let (ended, after) = blank(closing, cursor);
+    let (ended, after) = skip_cell_end(closing, cursor);
     if ended {
         return Ok((width, after));
     }
-    instruction(items, cells, thread, width, closing, after)
+    read_instruction(items, cells, thread, width, closing, after)
 }
 
 /// The cell of a thread, with `|` after it, or `;` for the last one.
 #[tactic(auto, unfolding(crate::specs::Table::column))]
-fn column<'a>(
+fn read_thread_cell<'a>(
     items: &[Item],
     cells: &mut Vec<Cell>,
     threads: u8,
@@ -157,12 +157,12 @@ fn column<'a>(
     } else {
         BAR
     };
-    let (width, after) = cell(items, cells, thread, width, closing, cursor)?;
+    let (width, after) = read_cell(items, cells, thread, width, closing, cursor)?;
     Ok((width, after))
 }
 
 /// The cells of all threads.
-fn columns<'a>(
+fn read_thread_cells<'a>(
     items: &[Item],
     cells: &mut Vec<Cell>,
     threads: u8,
@@ -176,7 +176,7 @@ fn columns<'a>(
     let mut width = width;
     let mut at = cursor;
     for thread in 0..threads {
-        let (kept, after) = column(items, cells, threads, thread, width, at)?;
+        let (kept, after) = read_thread_cell(items, cells, threads, thread, width, at)?;
         width = kept;
         at = after;
     }
@@ -185,7 +185,7 @@ fn columns<'a>(
 
 /// A row: its shape is tested before its cells.
 #[tactic(auto, unfolding(crate::specs::Table::row))]
-pub fn row<'a>(
+pub fn read_row<'a>(
     items: &[Item],
     cells: &mut Vec<Cell>,
     threads: u8,
@@ -196,10 +196,10 @@ pub fn row<'a>(
         (reads (row (address_of items.now) threads (cells.old.items, width))
         cursor.entry.line cursor.entry.pieces) }
 {
-    if !has_shape(threads.saturating_sub(1), cursor.rest()) {
+    if !has_row_shape(threads.saturating_sub(1), cursor.rest()) {
         return Err(cursor.fault(Kind::BadTable));
     }
-    let (width, after) = columns(items, cells, threads, width, cursor)?;
-    let after = end_line(after, Kind::BadTable)?;
+    let (width, after) = read_thread_cells(items, cells, threads, width, cursor)?;
+    let after = expect_line_end(after, Kind::BadTable)?;
     Ok((width, after))
 }

@@ -15,15 +15,15 @@ use crate::expressions::{Connective, expression};
 use crate::syntax::{Expr, Item, Quantifier};
 use crate::table::quantifier_named;
 use litmus_lexer::{Cursor, Kind, Locations, MOST_DEPTH, ReadError, Token};
-use piece_forms::{ahead, expect_end};
+use piece_forms::{expect_end, next_piece};
 use std::alloc::Global;
 
-fn keyword<'a>(cursor: Cursor<'a>) -> Result<(Quantifier, Cursor<'a>), ReadError>
+fn read_quantifier<'a>(cursor: Cursor<'a>) -> Result<(Quantifier, Cursor<'a>), ReadError>
     ensures { Gives view_read result (reads
         (one (word BadTable (λ w. ok_or (quantifier_of w) BadTable)))
         cursor.entry.line cursor.entry.pieces) }
 {
-    match ahead(&cursor) {
+    match next_piece(&cursor) {
         (Some(Token::Word(word)), after) => match quantifier_named(word) {
             Some(quantifier) => Ok((quantifier, after)),
             None => Err(after.fault(Kind::BadTable)),
@@ -35,7 +35,7 @@ fn keyword<'a>(cursor: Cursor<'a>) -> Result<(Quantifier, Cursor<'a>), ReadError
 
 /// The condition, and the end of the text.
 #[tactic(auto, unfolding(crate::specs::Condition::condition))]
-pub fn condition<'a>(
+pub fn read_condition<'a>(
     alloc: Global,
     items: &[Item],
     threads: u8,
@@ -46,7 +46,7 @@ pub fn condition<'a>(
         (reads (condition (address_of items.now) threads locations.old)
         cursor.entry.line cursor.entry.pieces) }
 {
-    let (quantifier, after) = keyword(cursor)?;
+    let (quantifier, after) = read_quantifier(cursor)?;
     let (expr, _, after) = expression(
         alloc,
         items,

@@ -8,8 +8,8 @@ ghost use Rattle.litmus_parser.specs.TreeViews.{tree_of};
 ghost use Rattle.litmus_parser.specs.Names.{address_of};
 ghost use Rattle.litmus_parser.specs.Condition.{sign_of, join_of, further, joined, chain, part_of, factor};
 
-use crate::atoms::{factor_start, value_register};
-use crate::items::{Opening, equals};
+use crate::atoms::{read_factor_start, read_value_register};
+use crate::items::{Opening, read_equals_value};
 use crate::syntax::{Expr, Item, Name};
 use litmus_lexer::{CLOSING_PARENTHESIS, COLON, Cursor, Kind, Locations, MOST_ATOMS, ReadError};
 use piece_forms::{expect_sign, skip_word};
@@ -22,7 +22,12 @@ pub enum Connective {
     Or,
 }
 
-fn join(alloc: Global, connective: Connective, left: Expr, right: Expr) -> Result<Expr, AllocError>
+fn join_expressions(
+    alloc: Global,
+    connective: Connective,
+    left: Expr,
+    right: Expr,
+) -> Result<Expr, AllocError>
     ensures { IfOk result (λ expr.
         tree_of expr ≡ join_of connective (tree_of left) (tree_of right)) }
 {
@@ -35,7 +40,7 @@ fn join(alloc: Global, connective: Connective, left: Expr, right: Expr) -> Resul
 }
 
 /// The sign of the connective.
-fn sign(connective: Connective) -> &'static [u8]
+fn connective_sign(connective: Connective) -> &'static [u8]
     ensures { result.now ≡ sign_of connective }
 {
     match connective {
@@ -60,12 +65,12 @@ pub fn expression<'a>(
         (reads (chain connective (part_of connective (address_of items.now) threads depth)
         (locations.old, atoms)) cursor.entry.line cursor.entry.pieces) }
 {
-    let (first, mut atoms, mut at) = part(
+    let (first, mut atoms, mut at) = read_expression_part(
         alloc, items, threads, locations, atoms, depth, connective, cursor,
     )?;
     let mut left = first;
     for _ in 0..MOST_ATOMS {
-        let (more, joined, count, after) = next_part(
+        let (more, joined, count, after) = read_next_part(
             alloc, items, threads, locations, atoms, depth, connective, left, at,
         )?;
         left = joined;
@@ -80,7 +85,7 @@ pub fn expression<'a>(
 
 /// A further part after the connective's sign, if there is one.
 #[cycle(expression)]
-fn next_part<'a>(
+fn read_next_part<'a>(
     alloc: Global,
     items: &[Item],
     threads: u8,
@@ -96,20 +101,20 @@ fn next_part<'a>(
         (joined connective (part_of connective (address_of items.now) threads depth))
         (tree_of left, (locations.old, atoms))) at.entry.line at.entry.pieces) }
 {
-    let (more, after) = skip_word(&at, sign(connective));
+    let (more, after) = skip_word(&at, connective_sign(connective));
     if !more {
         return Ok((false, left, atoms, after));
     }
-    let (right, atoms, after) = part(
+    let (right, atoms, after) = read_expression_part(
         alloc, items, threads, locations, atoms, depth, connective, after,
     )?;
-    let joined = join(alloc, connective, left, right)?;
+    let joined = join_expressions(alloc, connective, left, right)?;
     Ok((true, joined, atoms, after))
 }
 
 /// A part that the connective joins.
 #[cycle(expression)]
-fn part<'a>(
+fn read_expression_part<'a>(
     alloc: Global,
     items: &[Item],
     threads: u8,
@@ -154,12 +159,12 @@ fn factor<'a>(
         (reads (factor (address_of items.now) threads depth (locations.old, atoms))
         cursor.entry.line cursor.entry.pieces) }
 {
-    let (start, atoms, after) = factor_start(threads, depth, locations, atoms, cursor)?;
+    let (start, atoms, after) = read_factor_start(threads, depth, locations, atoms, cursor)?;
     match start {
         Some(Opening::OfThread(thread)) => {
             let after = expect_sign(after, Kind::BadCondition, COLON)?;
-            let (register, after) = value_register(items, thread, after)?;
-            let (value, after) = equals(after, Kind::BadCondition)?;
+            let (register, after) = read_value_register(items, thread, after)?;
+            let (value, after) = read_equals_value(after, Kind::BadCondition)?;
             Ok((
                 Expr::Is(Name::Register(thread, register), value),
                 atoms,
@@ -167,7 +172,7 @@ fn factor<'a>(
             ))
         }
         Some(Opening::OfLocation(number)) => {
-            let (value, after) = equals(after, Kind::BadCondition)?;
+            let (value, after) = read_equals_value(after, Kind::BadCondition)?;
             Ok((Expr::Is(Name::Location(number), value), atoms, after))
         }
         None => {

@@ -7,20 +7,20 @@ ghost use Rattle.litmus_parser.specs.Extents.{is_allowed, line_feeds, inner_line
 
 use litmus_lexer::{Kind, LitmusError, MOST_BYTES};
 
-fn is_allowed(b: u8) -> bool
+fn is_allowed_byte(b: u8) -> bool
     ensures { result ≡ is_allowed b }
 {
     matches!(b, b' '..=b'~' | b'\t' | b'\n' | b'\r')
 }
 
-fn allowed_count(text: &[u8]) -> usize
+fn count_leading_allowed_bytes(text: &[u8]) -> usize
     ensures count { result ≡ prefix_len is_allowed text.now }
     ensures within { result ≤ length text.now }
 {
-    text.iter().take_while(|b| is_allowed(**b)).count()
+    text.iter().take_while(|b| is_allowed_byte(**b)).count()
 }
 
-fn line_feeds(text: &[u8]) -> usize
+fn count_line_feeds(text: &[u8]) -> usize
     ensures count { result ≡ line_feeds text.now }
     ensures within { result ≤ length text.now }
 {
@@ -28,16 +28,16 @@ fn line_feeds(text: &[u8]) -> usize
 }
 
 /// How many line feeds begin a further line: all but one that is the last byte.
-fn inner_line_feeds(text: &[u8]) -> usize
+fn count_inner_line_feeds(text: &[u8]) -> usize
     ensures count { result ≡ inner_line_feeds text.now }
     ensures within { result ≤ length text.now }
 {
     let (inner, _) = text.split_at(text.len().saturating_sub(1));
-    line_feeds(inner)
+    count_line_feeds(inner)
 }
 
 /// How many bytes come after the last line feed.
-fn tail(text: &[u8]) -> usize
+fn last_line_length(text: &[u8]) -> usize
     ensures count { result ≡ suffix_len is_within_line text.now }
     ensures within { result ≤ length text.now }
 {
@@ -46,28 +46,28 @@ fn tail(text: &[u8]) -> usize
 
 /// The lines before the one of the first bad byte, or the whole text where each byte is allowed;
 /// and the fault of a text that would have to go on after them.
-pub fn reach(text: &[u8]) -> (&[u8], LitmusError)
+pub fn readable_lines(text: &[u8]) -> (&[u8], LitmusError)
     requires { length text.now ≤ MOST_BYTES }
     ensures text { result.0.now ≡ (reach text.now).0 }
     ensures fault { result.1 ≡ (reach text.now).1 }
     ensures kind { result.1.kind ≢ Kind.NoMemory }
 {
-    let count = allowed_count(text);
+    let count = count_leading_allowed_bytes(text);
     if count == text.len() {
         return (
             text,
             LitmusError {
-                line: 1 + inner_line_feeds(text),
+                line: 1 + count_inner_line_feeds(text),
                 kind: Kind::CutShort,
             },
         );
     }
     let (good, _) = text.split_at(count);
-    let (lines, _) = good.split_at(good.len() - tail(good));
+    let (lines, _) = good.split_at(good.len() - last_line_length(good));
     (
         lines,
         LitmusError {
-            line: 1 + line_feeds(good),
+            line: 1 + count_line_feeds(good),
             kind: Kind::BadByte,
         },
     )

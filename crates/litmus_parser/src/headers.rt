@@ -16,7 +16,7 @@ use litmus_lexer::{
 use text_lines::split_line;
 
 /// The name in the first line, and the second line.
-fn first_line<'a>(text: &'a [u8]) -> Result<(&'a [u8], HeaderLines<'a>), ReadError>
+fn read_title_line<'a>(text: &'a [u8]) -> Result<(&'a [u8], HeaderLines<'a>), ReadError>
     requires { length text.now ≤ MOST_BYTES }
     ensures read { Gives (λ r. (r.0.now, r.1.line, text_pieces r.1.rest.now [])) result
         (reads title 1 (text_pieces text.now [])) }
@@ -40,7 +40,7 @@ fn first_line<'a>(text: &'a [u8]) -> Result<(&'a [u8], HeaderLines<'a>), ReadErr
 
 /// The line after a header line, or the first line of the initial block; and whether it was a
 /// header line.
-fn header_line<'a>(cursor: HeaderLines<'a>) -> Result<(bool, HeaderLines<'a>), ReadError>
+fn read_header_line<'a>(cursor: HeaderLines<'a>) -> Result<(bool, HeaderLines<'a>), ReadError>
     ensures read { Gives (λ r. ((r.0, tt), r.1.line, text_pieces r.1.rest.now [])) result
         (reads (turn (λ _. one line_or_block) (λ _. line_end BadHeader) tt) cursor.entry.line
         (text_pieces cursor.entry.rest.now [])) }
@@ -72,7 +72,7 @@ fn header_line<'a>(cursor: HeaderLines<'a>) -> Result<(bool, HeaderLines<'a>), R
 }
 
 /// The first line of the initial block.
-fn header<'a>(cursor: HeaderLines<'a>) -> Result<HeaderLines<'a>, ReadError>
+fn read_header_lines<'a>(cursor: HeaderLines<'a>) -> Result<HeaderLines<'a>, ReadError>
     ensures read { Gives (λ r. (tt, r.line, pieces_of r.rest.now)) result
         (reads (many (refused Short) (λ _. one line_or_block) (λ _. line_end BadHeader)
         MOST_BYTES tt)
@@ -83,7 +83,7 @@ fn header<'a>(cursor: HeaderLines<'a>) -> Result<HeaderLines<'a>, ReadError>
 {
     let mut at = cursor;
     for _ in 0..MOST_BYTES {
-        let (more, after) = header_line(at)?;
+        let (more, after) = read_header_line(at)?;
         at = after;
         if !more {
             return Ok(at);
@@ -94,7 +94,7 @@ fn header<'a>(cursor: HeaderLines<'a>) -> Result<HeaderLines<'a>, ReadError>
 
 /// The name of the test, and the first line of the initial block.
 #[tactic(auto, unfolding(crate::specs::Header::preamble))]
-pub fn preamble<'a>(text: &'a [u8]) -> Result<(&'a [u8], HeaderLines<'a>), ReadError>
+pub fn read_preamble<'a>(text: &'a [u8]) -> Result<(&'a [u8], HeaderLines<'a>), ReadError>
     requires { length text.now ≤ MOST_BYTES }
     ensures read { Gives (λ r. (r.0.now, r.1.line, pieces_of r.1.rest.now)) result
         (reads preamble 1 (text_pieces text.now [])) }
@@ -103,7 +103,7 @@ pub fn preamble<'a>(text: &'a [u8]) -> Result<(&'a [u8], HeaderLines<'a>), ReadE
     // It takes no memory.
     ensures sure { IfErr result TakesNoMemory }
 {
-    let (name, second) = first_line(text)?;
-    let body = header(second)?;
+    let (name, second) = read_title_line(text)?;
+    let body = read_header_lines(second)?;
     Ok((name, body))
 }

@@ -6,13 +6,17 @@ ghost use Rattle.litmus_parser.specs.Names.{address_of};
 ghost use Rattle.litmus_parser.specs.Verdicts.{kept, value_in, base_in, meaning};
 
 use crate::forms::Form;
-use crate::items::{address_of, is_address};
+use crate::items::{address_register_location, is_address_register};
 use crate::syntax::{Instruction, Item, Width};
 use litmus_lexer::{Cursor, Kind, ReadError};
 
 /// The width of the text after a memory instruction of this width.
 #[tactic(auto, unfolding(crate::specs::Verdicts::kept))]
-fn kept(width: Option<Width>, own: Width, at: &Cursor<'_>) -> Result<Option<Width>, ReadError>
+fn common_width(
+    width: Option<Width>,
+    own: Width,
+    at: &Cursor<'_>,
+) -> Result<Option<Width>, ReadError>
     ensures { Gives (λ w. w) result (judged (kept width own) at.now.line) }
 {
     match width {
@@ -29,7 +33,7 @@ fn kept(width: Option<Width>, own: Width, at: &Cursor<'_>) -> Result<Option<Widt
 
 /// The register, unless it is an address register.
 #[tactic(auto, unfolding(crate::specs::Verdicts::value_in))]
-fn value_register(
+fn check_value_register(
     items: &[Item],
     thread: u8,
     register: u8,
@@ -38,7 +42,7 @@ fn value_register(
     ensures { Gives (λ r. r) result
         (judged (value_in (address_of items.now) thread register) at.now.line) }
 {
-    if is_address(items, thread, register) {
+    if is_address_register(items, thread, register) {
         return Err(at.fault(Kind::AddressAsValue));
     }
     Ok(register)
@@ -50,7 +54,7 @@ fn base_location(items: &[Item], thread: u8, register: u8, at: &Cursor<'_>) -> R
     ensures { Gives (λ r. r) result
         (judged (base_in (address_of items.now) thread register) at.now.line) }
 {
-    match address_of(items, thread, register) {
+    match address_register_location(items, thread, register) {
         Some(location) => Ok(location),
         None => Err(at.fault(Kind::ValueAsAddress)),
     }
@@ -71,21 +75,21 @@ pub fn instruction_of_form(
 {
     match form {
         Form::Load(own, target, base) => {
-            let width = kept(width, own, at)?;
-            let target = value_register(items, thread, target, at)?;
+            let width = common_width(width, own, at)?;
+            let target = check_value_register(items, thread, target, at)?;
             let location = base_location(items, thread, base, at)?;
             Ok((Instruction::Load { target, location }, width))
         }
         Form::Store(own, source, base) => {
-            let width = kept(width, own, at)?;
-            let source = value_register(items, thread, source, at)?;
+            let width = common_width(width, own, at)?;
+            let source = check_value_register(items, thread, source, at)?;
             let location = base_location(items, thread, base, at)?;
             Ok((Instruction::Store { source, location }, width))
         }
         Form::Swap(own, target, source, base) => {
-            let width = kept(width, own, at)?;
-            let target = value_register(items, thread, target, at)?;
-            let source = value_register(items, thread, source, at)?;
+            let width = common_width(width, own, at)?;
+            let target = check_value_register(items, thread, target, at)?;
+            let source = check_value_register(items, thread, source, at)?;
             let location = base_location(items, thread, base, at)?;
             Ok((
                 Instruction::Swap {
@@ -100,7 +104,7 @@ pub fn instruction_of_form(
             if value > most {
                 return Err(at.fault(Kind::ValueRange));
             }
-            let target = value_register(items, thread, target, at)?;
+            let target = check_value_register(items, thread, target, at)?;
             Ok((Instruction::Set { target, value }, width))
         }
         Form::Fence => Ok((Instruction::Fence, width)),

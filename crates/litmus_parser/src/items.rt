@@ -15,9 +15,9 @@ ghost use Rattle.litmus_parser.specs.Block.{setting, rest_of_item};
 use crate::syntax::{Item, Name, Setting};
 use litmus_lexer::{
     COLON, Cursor, EQUALS, Kind, LAST_THREAD, Locations, MOST_LOCATIONS, ReadError, Token,
-    VALUE_BOUND, is_location, is_number, number, register, small,
+    VALUE_BOUND, capped_number, is_location, is_number, register_number, small_number,
 };
-use piece_forms::{ahead, expect_sign};
+use piece_forms::{expect_sign, next_piece};
 
 /// What an item begins with.
 #[derive(Clone, Copy)]
@@ -34,14 +34,14 @@ pub fn same_name(a: Name, b: Name) -> bool
 }
 
 /// Whether one of the items sets the name.
-pub fn is_set(items: &[Item], name: Name) -> bool
+pub fn is_name_set(items: &[Item], name: Name) -> bool
     ensures { result ≡ list_any (λ item. same_name item.name name) items.now }
 {
     items.iter().any(|item| same_name(item.name, name))
 }
 
 /// The first of the items that sets the name.
-fn first_of(items: &[Item], name: Name) -> Option<&Item>
+fn first_item_setting(items: &[Item], name: Name) -> Option<&Item>
     ensures { option_map (λ item. item.now) result
         ≡ find (λ item. same_name item.name name) items.now }
 {
@@ -50,10 +50,10 @@ fn first_of(items: &[Item], name: Name) -> Option<&Item>
 
 /// The location to which the first of the items that set the thread's register sets it, if it
 /// sets it to one.
-pub fn address_of(items: &[Item], thread: u8, register: u8) -> Option<u8>
+pub fn address_register_location(items: &[Item], thread: u8, register: u8) -> Option<u8>
     ensures { result ≡ address_of items.now thread register }
 {
-    let item = first_of(items, Name::Register(thread, register))?;
+    let item = first_item_setting(items, Name::Register(thread, register))?;
     match item.setting {
         Setting::Address(location) => Some(location),
         Setting::Number(_) => None,
@@ -61,15 +61,15 @@ pub fn address_of(items: &[Item], thread: u8, register: u8) -> Option<u8>
 }
 
 /// Whether the items set the thread's register to a location.
-pub fn is_address(items: &[Item], thread: u8, register: u8) -> bool
+pub fn is_address_register(items: &[Item], thread: u8, register: u8) -> bool
     ensures { result ≡ is_some (address_of items.now thread register) }
 {
-    address_of(items, thread, register).is_some()
+    address_register_location(items, thread, register).is_some()
 }
 
 /// The number of the location that a word names, which is new if it was not named before.
 #[tactic(auto, unfolding(crate::specs::Words::location))]
-pub fn location(
+pub fn find_or_add_location(
     locations: &mut Locations,
     word: &[u8],
     at: &Cursor<'_>,
@@ -94,13 +94,13 @@ pub fn location(
 }
 
 /// The number that a word says, if it is a value.
-fn value_of(word: &[u8], at: &Cursor<'_>, kind: Kind) -> Result<u32, ReadError>
+fn value_of_word(word: &[u8], at: &Cursor<'_>, kind: Kind) -> Result<u32, ReadError>
     ensures { Gives (λ n. n) result (judged (value kind word.now) at.now.line) }
 {
     if !is_number(word) {
         return Err(at.fault(kind));
     }
-    let value = number(word);
+    let value = capped_number(word);
     if value == VALUE_BOUND {
         return Err(at.fault(Kind::ValueRange));
     }
@@ -108,13 +108,13 @@ fn value_of(word: &[u8], at: &Cursor<'_>, kind: Kind) -> Result<u32, ReadError>
 }
 
 /// A number that is a value.
-fn value<'a>(cursor: Cursor<'a>, kind: Kind) -> Result<(u32, Cursor<'a>), ReadError>
+fn read_value<'a>(cursor: Cursor<'a>, kind: Kind) -> Result<(u32, Cursor<'a>), ReadError>
     ensures { Gives view_read result
         (reads (one (word kind (value kind))) cursor.entry.line cursor.entry.pieces) }
 {
-    match ahead(&cursor) {
+    match next_piece(&cursor) {
         (Some(Token::Word(word)), after) => {
-            let value = value_of(word, &after, kind)?;
+            let value = value_of_word(word, &after, kind)?;
             Ok((value, after))
         }
         (Some(_), after) => Err(after.fault(kind)),
@@ -123,11 +123,11 @@ fn value<'a>(cursor: Cursor<'a>, kind: Kind) -> Result<(u32, Cursor<'a>), ReadEr
 }
 
 /// What stands after the name in an atom, or in an item of a location: `=` and a number.
-pub fn equals<'a>(cursor: Cursor<'a>, kind: Kind) -> Result<(u32, Cursor<'a>), ReadError>
+pub fn read_equals_value<'a>(cursor: Cursor<'a>, kind: Kind) -> Result<(u32, Cursor<'a>), ReadError>
     ensures { Gives view_read result (reads (equals kind) cursor.entry.line cursor.entry.pieces) }
 {
     let after = expect_sign(cursor, kind, EQUALS)?;
-    let (value, after) = value(after, kind)?;
+    let (value, after) = read_value(after, kind)?;
     Ok((value, after))
 }
 
@@ -143,30 +143,34 @@ pub fn item_opening(
     ensures { Gives (λ opening. (opening, locations.new)) result
         (judged (opening kind threads word.now locations.old) at.now.line) }
 {
-    match small(word, LAST_THREAD) {
+    match small_number(word, LAST_THREAD) {
         Some(thread) if thread < threads => Ok(Opening::OfThread(thread)),
         Some(_) => Err(at.fault(kind)),
         None => {
-            let number = location(locations, word, at, kind)?;
+            let number = find_or_add_location(locations, word, at, kind)?;
             Ok(Opening::OfLocation(number))
         }
     }
 }
 
 /// What a word sets a register to.
-fn setting_of(locations: &mut Locations, word: &[u8], at: &Cursor<'_>) -> Result<Setting, ReadError>
+fn setting_of_word(
+    locations: &mut Locations,
+    word: &[u8],
+    at: &Cursor<'_>,
+) -> Result<Setting, ReadError>
     ensures { Gives (λ setting. (setting, locations.new)) result
         (judged (setting locations.old word.now) at.now.line) }
 {
     if is_number(word) {
-        let value = value_of(word, at, Kind::BadInitial)?;
+        let value = value_of_word(word, at, Kind::BadInitial)?;
         return Ok(Setting::Number(value));
     }
-    let number = location(locations, word, at, Kind::BadInitial)?;
+    let number = find_or_add_location(locations, word, at, Kind::BadInitial)?;
     Ok(Setting::Address(number))
 }
 
-fn setting<'a>(
+fn read_setting<'a>(
     locations: &mut Locations,
     cursor: Cursor<'a>,
 ) -> Result<(Setting, Cursor<'a>), ReadError>
@@ -174,9 +178,9 @@ fn setting<'a>(
         (reads (one (word BadInitial (setting locations.old)))
         cursor.entry.line cursor.entry.pieces) }
 {
-    match ahead(&cursor) {
+    match next_piece(&cursor) {
         (Some(Token::Word(word)), after) => {
-            let setting = setting_of(locations, word, &after)?;
+            let setting = setting_of_word(locations, word, &after)?;
             Ok((setting, after))
         }
         (Some(_), after) => Err(after.fault(Kind::BadInitial)),
@@ -185,13 +189,13 @@ fn setting<'a>(
 }
 
 /// A register other than x0.
-fn settable<'a>(cursor: Cursor<'a>) -> Result<(u8, Cursor<'a>), ReadError>
+fn read_settable_register<'a>(cursor: Cursor<'a>) -> Result<(u8, Cursor<'a>), ReadError>
     ensures { Gives view_read result
         (reads (one (word BadInitial (λ w. named_register BadInitial (register_of w))))
         cursor.entry.line cursor.entry.pieces) }
 {
-    match ahead(&cursor) {
-        (Some(Token::Word(word)), after) => match register(word) {
+    match next_piece(&cursor) {
+        (Some(Token::Word(word)), after) => match register_number(word) {
             None | Some(0) => Err(after.fault(Kind::BadInitial)),
             Some(register) => Ok((register, after)),
         },
@@ -202,7 +206,7 @@ fn settable<'a>(cursor: Cursor<'a>) -> Result<(u8, Cursor<'a>), ReadError>
 
 /// The rest of an item that begins with this.
 #[tactic(auto, unfolding(crate::specs::Block::rest_of_item))]
-pub fn item<'a>(
+pub fn read_rest_of_item<'a>(
     locations: &mut Locations,
     opening: Opening,
     cursor: Cursor<'a>,
@@ -214,9 +218,9 @@ pub fn item<'a>(
     match opening {
         Opening::OfThread(thread) => {
             let after = expect_sign(cursor, Kind::BadInitial, COLON)?;
-            let (register, after) = settable(after)?;
+            let (register, after) = read_settable_register(after)?;
             let after = expect_sign(after, Kind::BadInitial, EQUALS)?;
-            let (setting, after) = setting(locations, after)?;
+            let (setting, after) = read_setting(locations, after)?;
             Ok((
                 Item {
                     line,
@@ -227,7 +231,7 @@ pub fn item<'a>(
             ))
         }
         Opening::OfLocation(number) => {
-            let (value, after) = equals(cursor, Kind::BadInitial)?;
+            let (value, after) = read_equals_value(cursor, Kind::BadInitial)?;
             Ok((
                 Item {
                     line,

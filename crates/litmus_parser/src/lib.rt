@@ -15,11 +15,11 @@ mod laws;
 mod syntax;
 mod table;
 
-pub use blocks::block;
-pub use conditions::condition;
-pub use extent::reach;
-pub use headers::preamble;
+pub use blocks::read_block;
+pub use conditions::read_condition;
+pub use extent::readable_lines;
+pub use headers::read_preamble;
 pub use items::same_name;
 pub use laws::rows_have_this_shape;
 pub use syntax::{Cell, Expr, Instruction, Item, Name, Quantifier, Setting, Width};
-pub use table::whole_table;
+pub use table::read_table;

@@ -13,13 +13,13 @@ ghost use Rattle.litmus_parser.specs.Names.{address_of};
 ghost use Rattle.litmus_parser.specs.Table.{heading, separator, further_heading, header, is_absent};
 ghost use Rattle.litmus_parser.specs.Table.{row_or_condition, counted_row, rows, table};
 
-use crate::cells::row;
-use crate::forms::is;
+use crate::cells::read_row;
+use crate::forms::same_word;
 use crate::syntax::{Cell, Item, Name, Quantifier, Width};
 use litmus_lexer::{
-    BAR, Cursor, Kind, MOST_ROWS, MOST_THREADS, ReadError, SEMICOLON, Token, small,
+    BAR, Cursor, Kind, MOST_ROWS, MOST_THREADS, ReadError, SEMICOLON, Token, small_number,
 };
-use piece_forms::{ahead, end_line, first, from_next};
+use piece_forms::{expect_line_end, next_piece, next_piece_or_line_end, next_piece_position};
 use std::alloc::Global;
 
 /// The number of the thread that a heading names, at most 16.
@@ -27,17 +27,17 @@ fn thread_named(word: &[u8]) -> Option<u8>
     ensures { result ≡ thread_named word.now }
 {
     match word {
-        [b'P', number @ ..] => small(number, MOST_THREADS),
+        [b'P', number @ ..] => small_number(number, MOST_THREADS),
         _ => None,
     }
 }
 
 /// The first heading.
-fn first_heading<'a>(cursor: Cursor<'a>) -> Result<Cursor<'a>, ReadError>
+fn read_first_heading<'a>(cursor: Cursor<'a>) -> Result<Cursor<'a>, ReadError>
     ensures { Gives (λ at. (tt, at.line, at.pieces)) result
         (reads (one (heading 0)) cursor.entry.line cursor.entry.pieces) }
 {
-    match ahead(&cursor) {
+    match next_piece(&cursor) {
         (Some(Token::Word(word)), after) => match thread_named(word) {
             Some(0) => Ok(after),
             _ => Err(after.fault(Kind::BadTable)),
@@ -48,12 +48,12 @@ fn first_heading<'a>(cursor: Cursor<'a>) -> Result<Cursor<'a>, ReadError>
 }
 
 /// Whether a further heading follows: the position after a `|`, or a `;`.
-fn separator<'a>(cursor: Cursor<'a>) -> Result<(bool, Cursor<'a>), ReadError>
+fn read_heading_separator<'a>(cursor: Cursor<'a>) -> Result<(bool, Cursor<'a>), ReadError>
     ensures { Gives view_read result
         (reads (here BadTable (either_sign BadTable BAR SEMICOLON)) cursor.entry.line
         cursor.entry.pieces) }
 {
-    match first(&cursor) {
+    match next_piece_or_line_end(&cursor) {
         (Some(Token::Sign(BAR)), after) => Ok((true, after)),
         (Some(Token::Sign(SEMICOLON)), after) => Ok((false, after)),
         _ => Err(cursor.fault(Kind::BadTable)),
@@ -61,12 +61,12 @@ fn separator<'a>(cursor: Cursor<'a>) -> Result<(bool, Cursor<'a>), ReadError>
 }
 
 /// The heading of a thread after the first one.
-fn later_heading<'a>(thread: u8, cursor: Cursor<'a>) -> Result<Cursor<'a>, ReadError>
+fn read_thread_heading<'a>(thread: u8, cursor: Cursor<'a>) -> Result<Cursor<'a>, ReadError>
     ensures read { Gives (λ at. (tt, at.line, at.pieces)) result
         (reads (here BadTable (heading thread)) cursor.entry.line cursor.entry.pieces) }
     ensures few { OnOk result (thread < MOST_THREADS) }
 {
-    match first(&cursor) {
+    match next_piece_or_line_end(&cursor) {
         (Some(Token::Word(word)), after) => {
             if thread_named(word) != Some(thread) {
                 return Err(cursor.fault(Kind::BadTable));
@@ -81,23 +81,26 @@ fn later_heading<'a>(thread: u8, cursor: Cursor<'a>) -> Result<Cursor<'a>, ReadE
 }
 
 /// A further heading, if one follows.
-fn next_heading<'a>(threads: u8, cursor: Cursor<'a>) -> Result<(bool, u8, Cursor<'a>), ReadError>
+fn read_next_heading<'a>(
+    threads: u8,
+    cursor: Cursor<'a>,
+) -> Result<(bool, u8, Cursor<'a>), ReadError>
     requires { threads ≤ MOST_THREADS }
     ensures read { Gives (λ r. ((r.0, r.1), r.2.line, r.2.pieces)) result
         (reads (turn separator further_heading threads) cursor.entry.line
         cursor.entry.pieces) }
     ensures few { IfOk result (λ r. (threads ≤ r.1) × (r.1 ≤ MOST_THREADS)) }
 {
-    let (more, after) = separator(cursor)?;
+    let (more, after) = read_heading_separator(cursor)?;
     if !more {
         return Ok((false, threads, after));
     }
-    let after = later_heading(threads, after)?;
+    let after = read_thread_heading(threads, after)?;
     Ok((true, threads + 1, after))
 }
 
 /// The headings `P0 | P1 | ..` after the first: how many threads there are.
-fn later_headings<'a>(cursor: Cursor<'a>) -> Result<(u8, Cursor<'a>), ReadError>
+fn read_later_headings<'a>(cursor: Cursor<'a>) -> Result<(u8, Cursor<'a>), ReadError>
     ensures read { Gives view_read result
         (reads (many (refused BadTable) separator further_heading
         MOST_THREADS 1)
@@ -107,7 +110,7 @@ fn later_headings<'a>(cursor: Cursor<'a>) -> Result<(u8, Cursor<'a>), ReadError>
     let mut threads = 1;
     let mut at = cursor;
     for _ in 0..MOST_THREADS {
-        let (more, count, after) = next_heading(threads, at)?;
+        let (more, count, after) = read_next_heading(threads, at)?;
         threads = count;
         at = after;
         if !more {
@@ -119,18 +122,18 @@ fn later_headings<'a>(cursor: Cursor<'a>) -> Result<(u8, Cursor<'a>), ReadError>
 
 /// The header row, after blank lines.
 #[tactic(auto, unfolding(crate::specs::Table::header))]
-fn header_row<'a>(cursor: Cursor<'a>) -> Result<(u8, Cursor<'a>), ReadError>
+fn read_header_row<'a>(cursor: Cursor<'a>) -> Result<(u8, Cursor<'a>), ReadError>
     ensures read { Gives view_read result (reads header cursor.entry.line cursor.entry.pieces) }
     // There are 1 to 16 threads.
     ensures few { IfOk result (λ r. (0 < r.0) × (r.0 ≤ MOST_THREADS)) }
 {
-    let after = first_heading(cursor)?;
-    let (threads, after) = later_headings(after)?;
-    let after = end_line(after, Kind::BadTable)?;
+    let after = read_first_heading(cursor)?;
+    let (threads, after) = read_later_headings(after)?;
+    let after = expect_line_end(after, Kind::BadTable)?;
     Ok((threads, after))
 }
 
-fn is_absent(name: Name, threads: u8) -> bool
+fn names_absent_thread(name: Name, threads: u8) -> bool
     ensures { result ≡ is_absent threads name }
 {
     match name {
@@ -140,49 +143,51 @@ fn is_absent(name: Name, threads: u8) -> bool
 }
 
 /// The first item for a thread that the table does not have.
-fn absent_item(items: &[Item], threads: u8) -> Option<&Item>
+fn item_of_absent_thread(items: &[Item], threads: u8) -> Option<&Item>
     ensures { option_map (λ item. item.now) result
         ≡ find (λ item. is_absent threads item.name) items.now }
 {
-    items.iter().find(|item| is_absent(item.name, threads))
+    items
+        .iter()
+        .find(|item| names_absent_thread(item.name, threads))
 }
 
 /// What a keyword asks.
 pub fn quantifier_named(word: &[u8]) -> Option<Quantifier>
     ensures { result ≡ quantifier_of word.now }
 {
-    if is(word, b"exists") {
+    if same_word(word, b"exists") {
         return Some(Quantifier::Exists);
     }
-    if is(word, b"~exists") {
+    if same_word(word, b"~exists") {
         return Some(Quantifier::NotExists);
     }
-    if is(word, b"forall") {
+    if same_word(word, b"forall") {
         return Some(Quantifier::Forall);
     }
     None
 }
 
 /// Whether a further row begins, or the condition; and where it does.
-fn row_begins<'a>(count: u16, cursor: Cursor<'a>) -> Result<(bool, Cursor<'a>), ReadError>
+fn table_row_begins<'a>(count: u16, cursor: Cursor<'a>) -> Result<(bool, Cursor<'a>), ReadError>
     ensures { Gives view_read result
         (reads (one (row_or_condition count)) cursor.entry.line cursor.entry.pieces) }
 {
-    match ahead(&cursor) {
+    match next_piece(&cursor) {
         (Some(Token::Word(word)), after) => {
             if quantifier_named(word).is_some() {
-                return Ok((false, from_next(&cursor)));
+                return Ok((false, next_piece_position(&cursor)));
             }
             if count >= MOST_ROWS {
                 return Err(after.fault(Kind::TooLarge));
             }
-            Ok((true, from_next(&cursor)))
+            Ok((true, next_piece_position(&cursor)))
         }
         (Some(_), after) => {
             if count >= MOST_ROWS {
                 return Err(after.fault(Kind::TooLarge));
             }
-            Ok((true, from_next(&cursor)))
+            Ok((true, next_piece_position(&cursor)))
         }
         (None, end) => Err(end.fault(Kind::CutShort)),
     }
@@ -190,7 +195,7 @@ fn row_begins<'a>(count: u16, cursor: Cursor<'a>) -> Result<(bool, Cursor<'a>), 
 
 /// The next row, unless the condition begins there; and whether it was a row.
 #[tactic(auto, unfolding(crate::specs::Table::counted_row))]
-fn next_row<'a>(
+fn read_next_row<'a>(
     items: &[Item],
     cells: &mut Vec<Cell>,
     threads: u8,
@@ -204,15 +209,15 @@ fn next_row<'a>(
         (count, (cells.old.items, width))) cursor.entry.line cursor.entry.pieces) }
     ensures more { IfOk result (λ r. r.1 ≤ count + 1) }
 {
-    let (more, at) = row_begins(count, cursor)?;
+    let (more, at) = table_row_begins(count, cursor)?;
     if !more {
         return Ok((false, count, width, at));
     }
-    let (width, after) = row(items, cells, threads, width, at)?;
+    let (width, after) = read_row(items, cells, threads, width, at)?;
     Ok((true, count + 1, width, after))
 }
 
-fn rows_into<'a>(
+fn read_rows_into<'a>(
     items: &[Item],
     cells: &mut Vec<Cell>,
     threads: u8,
@@ -227,7 +232,7 @@ fn rows_into<'a>(
     let mut width = None;
     let mut at = cursor;
     for _ in 0..MOST_ROWS + 1 {
-        let (more, rows, kept, after) = next_row(items, cells, threads, count, width, at)?;
+        let (more, rows, kept, after) = read_next_row(items, cells, threads, count, width, at)?;
         count = rows;
         width = kept;
         at = after;
@@ -240,7 +245,7 @@ fn rows_into<'a>(
 
 /// The instructions of all rows in reading order, and the position at which the condition begins.
 #[tactic(auto, unfolding(crate::specs::Table::rows))]
-fn rows<'a>(
+fn read_rows<'a>(
     alloc: Global,
     items: &[Item],
     threads: u8,
@@ -250,13 +255,13 @@ fn rows<'a>(
         (reads (rows (address_of items.now) threads) cursor.entry.line cursor.entry.pieces) }
 {
     let mut cells = Vec::new(alloc);
-    let (_, _, after) = rows_into(items, &mut cells, threads, cursor)?;
+    let (_, _, after) = read_rows_into(items, &mut cells, threads, cursor)?;
     Ok((cells, after))
 }
 
 /// How many threads there are, their instructions, and the position at which the condition begins.
 #[tactic(auto, unfolding(crate::specs::Table::table))]
-pub fn whole_table<'a>(
+pub fn read_table<'a>(
     alloc: Global,
     items: &[Item],
     cursor: Cursor<'a>,
@@ -266,10 +271,10 @@ pub fn whole_table<'a>(
     // There are 1 to 16 threads.
     ensures few { IfOk result (λ r. (0 < r.0) × (r.0 ≤ MOST_THREADS)) }
 {
-    let (threads, after) = header_row(cursor)?;
-    if let Some(item) = absent_item(items, threads) {
+    let (threads, after) = read_header_row(cursor)?;
+    if let Some(item) = item_of_absent_thread(items, threads) {
         return Err(ReadError::at(item.line, Kind::BadInitial));
     }
-    let (cells, after) = rows(alloc, items, threads, after)?;
+    let (cells, after) = read_rows(alloc, items, threads, after)?;
     Ok((threads, cells, after))
 }

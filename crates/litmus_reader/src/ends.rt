@@ -59,7 +59,7 @@ fn push_value(values: &mut Vec<u64>, value: u64) -> Result<(), AllocError>
 
 /// The value that goes with a name, or 0 if the name is not seen.
 #[tactic(auto, unfolding(crate::specs::Truth::value_of))]
-fn value_of(seen: &[Name], values: &[u64], name: Name) -> u64
+fn value_of_name(seen: &[Name], values: &[u64], name: Name) -> u64
     ensures { result ≡ value_of seen.now values.now name }
 {
     let mut names = seen;
@@ -77,13 +77,13 @@ fn value_of(seen: &[Name], values: &[u64], name: Name) -> u64
     0
 }
 
-fn holds(expr: &Expr, seen: &[Name], values: &[u64]) -> bool
+fn expression_holds(expr: &Expr, seen: &[Name], values: &[u64]) -> bool
     ensures { result ≡ holds (value_of seen.now values.now) (tree_of expr.now) }
 {
     match expr {
-        Expr::Is(name, value) => value_of(seen, values, *name) == u64::from(*value),
-        Expr::And(a, b) => holds(a, seen, values) && holds(b, seen, values),
-        Expr::Or(a, b) => holds(a, seen, values) || holds(b, seen, values),
+        Expr::Is(name, value) => value_of_name(seen, values, *name) == u64::from(*value),
+        Expr::And(a, b) => expression_holds(a, seen, values) && expression_holds(b, seen, values),
+        Expr::Or(a, b) => expression_holds(a, seen, values) || expression_holds(b, seen, values),
     }
 }
 
@@ -132,6 +132,6 @@ impl Test {
         ensures { result ≡
             holds (value_of (test_of self.now).seen values.now) (test_of self.now).tree }
     {
-        holds(&self.expr, &self.seen, values)
+        expression_holds(&self.expr, &self.seen, values)
     }
 }

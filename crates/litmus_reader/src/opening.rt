@@ -7,19 +7,19 @@ ghost use Rattle.litmus_reader.specs.TestViews.{test_of};
 ghost use Rattle.litmus_reader.specs.OpeningMemory.{is_of_location, with_setting, words_opened};
 
 use crate::contents::Test;
-use crate::threads::address;
+use crate::threads::location_address;
 use litmus_parser::{Item, Name, Setting};
 use physiological_order::Memory;
 use std::alloc::AllocError;
 
 /// Sets the word of an item that sets a location.
-fn set_word(memory: &mut Memory, item: Item) -> Result<(), AllocError>
+fn set_location_word(memory: &mut Memory, item: Item) -> Result<(), AllocError>
     ensures set { OnOk result (memory.new ≡ with_setting item.name item.setting memory.old) }
     ensures sure { is_of_location item.name ≡ false → IsOk result }
 {
     match (item.name, item.setting) {
         (Name::Location(location), Setting::Number(value)) => {
-            memory.set(address(location), u64::from(value))
+            memory.set(location_address(location), u64::from(value))
         }
         _ => Ok(()),
     }
@@ -39,7 +39,7 @@ impl Test {
         let mut memory = Memory::new(self.alloc);
         let mut left = self.items.as_slice();
         while let Some((item, rest)) = left.split_first() {
-            set_word(&mut memory, *item)?;
+            set_location_word(&mut memory, *item)?;
             left = rest;
         }
         Ok(memory)

@@ -17,19 +17,21 @@ ghost use Rattle.piece_forms.specs.Reading.{reads};
 
 use crate::contents::Test;
 use litmus_lexer::{Cursor, Kind, LitmusError, Locations, MOST_BYTES, MOST_THREADS, ReadError};
-use litmus_parser::{Expr, Name, block, condition, preamble, reach, same_name, whole_table};
+use litmus_parser::{
+    Expr, Name, read_block, read_condition, read_preamble, read_table, readable_lines, same_name,
+};
 use std::alloc::{AllocError, Global};
 
-fn is_seen(seen: &[Name], name: Name) -> bool
+fn is_name_seen(seen: &[Name], name: Name) -> bool
     ensures { result ≡ list_any (λ other. same_name other name) seen.now }
 {
     seen.iter().any(|other| same_name(*other, name))
 }
 
-fn see_name(seen: &mut Vec<Name>, name: Name) -> Result<(), AllocError>
+fn add_seen_name(seen: &mut Vec<Name>, name: Name) -> Result<(), AllocError>
     ensures { OnOk result (seen.new.items ≡ with_name seen.old.items name) }
 {
-    if is_seen(seen, name) {
+    if is_name_seen(seen, name) {
         return Ok(());
     }
     seen.push(name)?;
@@ -37,35 +39,35 @@ fn see_name(seen: &mut Vec<Name>, name: Name) -> Result<(), AllocError>
 }
 
 /// Adds the names of an expression, each once, in the order in which they are first seen.
-fn see(seen: &mut Vec<Name>, expr: &Expr) -> Result<(), AllocError>
+fn add_seen_names(seen: &mut Vec<Name>, expr: &Expr) -> Result<(), AllocError>
     ensures { OnOk result (seen.new.items ≡ seen_in (tree_of expr.now) seen.old.items) }
 {
     match expr {
-        Expr::Is(name, _) => see_name(seen, *name),
+        Expr::Is(name, _) => add_seen_name(seen, *name),
         Expr::And(a, b) | Expr::Or(a, b) => {
-            see(seen, a)?;
-            see(seen, b)
+            add_seen_names(seen, a)?;
+            add_seen_names(seen, b)
         }
     }
 }
 
 /// The parts of a text, one after the other.
 #[tactic(auto, unfolding(crate::specs::Grammar::whole_test))]
-fn parts<'a>(alloc: Global, text: &'a [u8]) -> Result<(Test, Cursor<'a>), ReadError>
+fn read_parts<'a>(alloc: Global, text: &'a [u8]) -> Result<(Test, Cursor<'a>), ReadError>
     requires { length text.now ≤ MOST_BYTES }
     ensures read { Gives (λ r. (test_of r.0, r.1.line, r.1.pieces)) result
         (reads whole_test 1 (text_pieces text.now [])) }
     ensures early { (e : LitmusError) → reads preamble 1 (text_pieces text.now []) ≡ Err e →
         (result ≡ Err (ReadError.Fault e)) × (e.kind ≢ Kind.NoMemory) }
 {
-    let (name, body) = preamble(text)?;
+    let (name, body) = read_preamble(text)?;
     let mut locations = Locations::new(alloc);
-    let (items, after) = block(alloc, &mut locations, Cursor::new(body))?;
-    let (threads, cells, after) = whole_table(alloc, &items, after)?;
-    let (quantifier, expr, end) = condition(alloc, &items, threads, &mut locations, after)?;
+    let (items, after) = read_block(alloc, &mut locations, Cursor::new(body))?;
+    let (threads, cells, after) = read_table(alloc, &items, after)?;
+    let (quantifier, expr, end) = read_condition(alloc, &items, threads, &mut locations, after)?;
     let name = Vec::from_slice(alloc, name)?;
     let mut seen = Vec::new(alloc);
-    see(&mut seen, &expr)?;
+    add_seen_names(&mut seen, &expr)?;
     let test = Test {
         name,
         locations,
@@ -87,7 +89,7 @@ fn is_cut_short(kind: Kind) -> bool
 }
 
 #[tactic(auto, unfolding(crate::specs::ReadingTest::test_at))]
-fn read_whole(alloc: Global, text: &[u8]) -> Result<Test, LitmusError>
+fn read_litmus_text(alloc: Global, text: &[u8]) -> Result<Test, LitmusError>
     ensures told { IsReadOrNoMemory test_of result (test_at text.now) }
     ensures large { MOST_BYTES < length text.now →
         result ≡ Err (record { line = 1; kind = Kind.TooLarge }) }
@@ -101,8 +103,8 @@ fn read_whole(alloc: Global, text: &[u8]) -> Result<Test, LitmusError>
             kind: Kind::TooLarge,
         });
     }
-    let (lines, beyond) = reach(text);
-    match parts(alloc, lines) {
+    let (lines, beyond) = readable_lines(text);
+    match read_parts(alloc, lines) {
         Ok((test, _)) => {
             if is_cut_short(beyond.kind) {
                 Ok(test)
@@ -149,5 +151,5 @@ pub fn read(alloc: Global, text: &[u8]) -> Result<Test, LitmusError>
     // The test or the first fault, front to back, unless memory ran out.
     ensures told { IsReadOrNoMemory test_of result (test_at text.now) }
 {
-    read_whole(alloc, text)
+    read_litmus_text(alloc, text)
 }

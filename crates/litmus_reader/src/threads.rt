@@ -27,7 +27,7 @@ impl<'a> Model for ThreadState<'a> {
 }
 
 /// A register's value; x0 reads as 0.
-fn value_in(registers: &[u64; 32], register: u8) -> u64
+fn register_value(registers: &[u64; 32], register: u8) -> u64
     ensures { result ≡ register_value registers.now register }
 {
     match registers.get(usize::from(register)) {
@@ -37,7 +37,7 @@ fn value_in(registers: &[u64; 32], register: u8) -> u64
 }
 
 /// Sets a register; writes to x0 are ignored.
-fn write(registers: &mut [u64; 32], register: u8, value: u64)
+fn set_register(registers: &mut [u64; 32], register: u8, value: u64)
     ensures { registers.new ≡ with_register registers.old register value }
 {
     if register > 0 && register < 32 {
@@ -47,7 +47,11 @@ fn write(registers: &mut [u64; 32], register: u8, value: u64)
 
 /// Does a thread's instructions up to its next memory instruction: what is left from there on.
 #[tactic(auto, unfolding(crate::specs::ThreadSteps::settled_thread))]
-fn settle<'a>(thread: u8, registers: &mut [u64; 32], cells: &'a [Cell]) -> &'a [Cell]
+fn run_to_memory_instruction<'a>(
+    thread: u8,
+    registers: &mut [u64; 32],
+    cells: &'a [Cell],
+) -> &'a [Cell]
     ensures { settled_thread thread registers.old cells.now ≡
         record { thread = thread; registers = registers.new; rest = result.now } }
 {
@@ -55,7 +59,11 @@ fn settle<'a>(thread: u8, registers: &mut [u64; 32], cells: &'a [Cell]) -> &'a [
     while let Some((cell, after)) = rest.split_first() {
         if cell.thread == thread {
             match cell.instruction {
-                Instruction::Set { target, value } => write(registers, target, u64::from(value)),
+                Instruction::Set { target, value } => set_register(
+                    registers,
+                    target,
+                    u64::from(value),
+                ),
                 Instruction::Fence => {}
                 _ => return rest,
             }
@@ -75,7 +83,7 @@ fn open_registers(thread: u8, items: &[Item], registers: &mut [u64; 32])
         if let Name::Register(owner, register) = item.name {
             if let Setting::Number(value) = item.setting {
                 if owner == thread {
-                    write(registers, register, u64::from(value));
+                    set_register(registers, register, u64::from(value));
                 }
             }
         }
@@ -84,7 +92,7 @@ fn open_registers(thread: u8, items: &[Item], registers: &mut [u64; 32])
 }
 
 /// The address of a location's word.
-pub(crate) fn address(location: u8) -> WordAddr
+pub(crate) fn location_address(location: u8) -> WordAddr
     ensures { result ≡ location }
 {
     WordAddr::at(u64::from(location))
@@ -99,7 +107,7 @@ impl<'a> ThreadState<'a> {
     {
         let mut registers = [0; 32];
         open_registers(thread, items, &mut registers);
-        let rest = settle(thread, &mut registers, cells);
+        let rest = run_to_memory_instruction(thread, &mut registers, cells);
         ThreadState {
             thread,
             rest,
@@ -113,16 +121,19 @@ impl<'a> ThreadState<'a> {
     {
         let cell = self.rest.first()?;
         match cell.instruction {
-            Instruction::Load { location, .. } => Some(Op::Load(address(location))),
+            Instruction::Load { location, .. } => Some(Op::Load(location_address(location))),
             Instruction::Store { source, location } => Some(Op::Store(
-                address(location),
-                value_in(&self.registers, source),
+                location_address(location),
+                register_value(&self.registers, source),
             )),
             Instruction::Swap {
                 source,
                 location,
                 ..
-            } => Some(Op::Swap(address(location), value_in(&self.registers, source))),
+            } => Some(Op::Swap(
+                location_address(location),
+                register_value(&self.registers, source),
+            )),
             _ => None,
         }
     }
@@ -138,18 +149,18 @@ impl<'a> ThreadState<'a> {
         if let Some(value) = received {
             match cell.instruction {
                 Instruction::Load { target, .. } | Instruction::Swap { target, .. } => {
-                    write(&mut self.registers, target, value);
+                    set_register(&mut self.registers, target, value);
                 }
                 _ => {}
             }
         }
-        self.rest = settle(self.thread, &mut self.registers, rest);
+        self.rest = run_to_memory_instruction(self.thread, &mut self.registers, rest);
     }
 
     /// A register's value.
     pub fn register(&self, register: u8) -> u64
         ensures { result ≡ register_value self.now.registers register }
     {
-        value_in(&self.registers, register)
+        register_value(&self.registers, register)
     }
 }

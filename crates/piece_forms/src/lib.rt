@@ -4,5 +4,6 @@
 mod looks;
 
 pub use looks::{
-    ahead, end_line, expect_end, expect_here, expect_sign, first, from_next, skip_word,
+    expect_end, expect_line_end, expect_sign, expect_sign_in_line, next_piece,
+    next_piece_or_line_end, next_piece_position, skip_word,
 };

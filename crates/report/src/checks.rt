@@ -11,9 +11,9 @@ ghost use Rattle.report.specs.Refusals.{IsRead, OnAccepted};
 ghost use Rattle.report.specs.Verdicts.{HasNoVerdict, IsCheckReport, IsVerdictLine, ReadsCounted, Tells};
 ghost use Rattle.report.specs.Verdicts.{TellsAll, TellsComplete, TellsVerdict, WritesCounted, is_legal};
 
-use crate::complete::{count_of_core, first_lack};
+use crate::complete::{count_records_of_core, first_core_lacking_records};
 use crate::outputs::{Report, write_report};
-use crate::texts::{records_of, trace_of};
+use crate::texts::{records_of_source, trace_of_source};
 use byte_streams::{Sink, Source};
 use physiological_order::{Memory, Op, Record, Verdict, check};
 use report_lines::Layout;
@@ -113,7 +113,7 @@ pub fn check_history<S: Source, R: Source, K: Sink>(
     ensures writes { WritesCounted result (K.failures sink.old) (K.failures sink.new) }
     ensures nothing { IfErr result (λ e. e ≢ RunError.Write → sink.new ≡ sink.old) }
 {
-    let report = match verdict_on(alloc, trace, records, opening, complete, layout) {
+    let report = match check_sources(alloc, trace, records, opening, complete, layout) {
         Ok(report) => report,
         Err(error) => return Err(error),
     };
@@ -124,7 +124,7 @@ pub fn check_history<S: Source, R: Source, K: Sink>(
 }
 
 /// The report of the verdict on the trace and the records that the sources have.
-pub(crate) fn verdict_on<S: Source, R: Source>(
+pub(crate) fn check_sources<S: Source, R: Source>(
     alloc: Global,
     trace: &mut S,
     records: &mut R,
@@ -147,22 +147,22 @@ pub(crate) fn verdict_on<S: Source, R: Source>(
         (S.failures trace.old) (S.failures trace.new)
         (R.failures records.old) (R.failures records.new) }
 {
-    let trace = match trace_of(alloc, trace) {
+    let trace = match trace_of_source(alloc, trace) {
         Ok(trace) => trace,
         Err(error) => return Err(error),
     };
-    let records = match records_of(alloc, records) {
+    let records = match records_of_source(alloc, records) {
         Ok(records) => records,
         Err(error) => return Err(error),
     };
-    match line_of(alloc, trace, &records, opening, complete, layout) {
+    match report_on_records(alloc, trace, &records, opening, complete, layout) {
         Ok(report) => Ok(report),
         Err(AllocError) => Err(RunError::NoMemory),
     }
 }
 
 // The report on these records, for what the trace issues.
-fn line_of(
+fn report_on_records(
     alloc: Global,
     trace: Trace,
     records: &[Record],
@@ -209,13 +209,13 @@ fn report_if_complete(
         records.now verdict report.all_done report.text.items) }
 {
     match verdict {
-        Verdict::Legal => report_on_lacks(alloc, layout, issued, records),
+        Verdict::Legal => report_on_lacking_records(alloc, layout, issued, records),
         _ => verdict_report(alloc, layout, verdict),
     }
 }
 
 // The report on legal records of which each operation is to have one.
-fn report_on_lacks(
+fn report_on_lacking_records(
     alloc: Global,
     layout: Layout,
     issued: &[Vec<Op>],
@@ -224,10 +224,10 @@ fn report_on_lacks(
     ensures { IfOk result (λ report. TellsAll layout (length issued.now) (issued_by issued.now)
         records.now report.all_done report.text.items) }
 {
-    match first_lack(issued, records) {
+    match first_core_lacking_records(issued, records) {
         None => verdict_report(alloc, layout, Verdict::Legal),
         Some(core) => {
-            let place = count_of_core(core, records);
+            let place = count_records_of_core(core, records);
             Ok(Report {
                 text: lack_text(alloc, layout, place as u64, core as u64)?,
                 all_done: false,

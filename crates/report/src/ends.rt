@@ -5,7 +5,7 @@ ghost use Rattle.report.specs.Answers.{FailuresAreCounted, IsCutOff, IsReported}
 ghost use Rattle.report.specs.Bytes.{OfBytes};
 ghost use Rattle.report.specs.Ends.{HasNoEnds, HasNoEndsInMemory, IsEndsReport};
 
-use crate::every_text::every_text;
+use crate::every_text::ends_list_text;
 use crate::litmus::litmus_test_of;
 use crate::outputs::{Report, layout_of, write_report};
 use crate::sources::read_text;
@@ -74,7 +74,7 @@ pub fn ends_report(alloc: Global, text: &[u8], options: &EndsOptions) -> Result<
         Err(EndsError::NoMemory) => return Err(RunError::NoMemory),
     };
     let layout = layout_of(options.json);
-    match every_text(alloc, layout, &test, &every, options.orders) {
+    match ends_list_text(alloc, layout, &test, &every, options.orders) {
         Ok(text) => Ok(Report {
             text,
             all_done: true,

@@ -9,27 +9,32 @@ ghost use Rattle.report.specs.EveryText.{order_behind, order_text, times, turn_t
 use itoa::Buffer;
 use litmus_reader::Test;
 use report_lines::{
-    Layout, put_closing, put_either, put_field, put_list_closing, put_list_opening, put_opening,
-    put_parting, put_word,
+    Layout, put_by_layout, put_item_separator, put_labelled_number, put_labelled_word,
+    put_list_closing, put_list_opening, put_report_closing, put_report_opening,
 };
-use report_text::{put_values, quantifier_text};
+use report_text::{put_named_values, quantifier_text};
 use sequential_ends::Ends;
 use std::alloc::{AllocError, Global};
 
 /// The test's name and threads, how many states were met, and how many ends there are.
-fn put_head(out: &mut Vec<u8>, layout: Layout, test: &Test, every: &Ends) -> Result<(), AllocError>
+fn put_ends_heading(
+    out: &mut Vec<u8>,
+    layout: Layout,
+    test: &Test,
+    every: &Ends,
+) -> Result<(), AllocError>
     ensures { OnOk result (out.new.items ≡
         out.old.items ++ head_text layout (test_of test.now) every.now) }
 {
-    put_word(out, layout, b"test", test.name())?;
-    put_field(out, layout, b"threads", test.threads() as u128)?;
-    put_field(out, layout, b"states", u128::from(every.states()))?;
+    put_labelled_word(out, layout, b"test", test.name())?;
+    put_labelled_number(out, layout, b"threads", test.threads() as u128)?;
+    put_labelled_number(out, layout, b"states", u128::from(every.states()))?;
     put_list_opening(out, layout, b"ends", every.len())
 }
 
 /// What stands before the values of an end.
 #[tactic(auto, unfolding(crate::specs::EveryText::mark))]
-fn mark(layout: Layout, held: bool) -> &'static [u8]
+fn held_mark(layout: Layout, held: bool) -> &'static [u8]
     ensures { result.now ≡ mark layout held }
 {
     match (layout, held) {
@@ -41,7 +46,7 @@ fn mark(layout: Layout, held: bool) -> &'static [u8]
 }
 
 /// How often a thread's number is among these.
-fn times(thread: u8, done: &[u8]) -> usize
+fn count_turns_of_thread(thread: u8, done: &[u8]) -> usize
     ensures times { result ≡ times thread done.now }
     ensures few { result ≤ length done.now }
 {
@@ -62,27 +67,32 @@ fn put_turn(out: &mut Vec<u8>, layout: Layout, thread: u8, number: usize) -> Res
     ensures { OnOk result (out.new.items ≡ out.old.items ++ turn_text layout thread number) }
 {
     let mut digits = Buffer::new();
-    put_either(out, layout, b" P", b"\"P")?;
+    put_by_layout(out, layout, b" P", b"\"P")?;
     out.extend_from_slice(digits.format(thread).as_bytes())?;
     out.push(b':')?;
     out.extend_from_slice(digits.format(number).as_bytes())?;
-    put_either(out, layout, b"", b"\"")
+    put_by_layout(out, layout, b"", b"\"")
 }
 
 /// An order.
-fn put_order(out: &mut Vec<u8>, layout: Layout, order: &[u8]) -> Result<(), AllocError>
+fn put_order_of_turns(out: &mut Vec<u8>, layout: Layout, order: &[u8]) -> Result<(), AllocError>
     ensures { OnOk result (out.new.items ≡ out.old.items ++ order_text layout order.now) }
 {
-    put_either(out, layout, b"  ", b",\"order\":[")?;
+    put_by_layout(out, layout, b"  ", b",\"order\":[")?;
     for at in 0..order.len() {
-        put_parting(out, layout, at == 0)?;
-        put_turn(out, layout, order[at], times(order[at], &order[..at]) + 1)?;
+        put_item_separator(out, layout, at == 0)?;
+        put_turn(
+            out,
+            layout,
+            order[at],
+            count_turns_of_thread(order[at], &order[..at]) + 1,
+        )?;
     }
     put_list_closing(out, layout)
 }
 
 /// Whether an order stands behind an end.
-fn has_order(layout: Layout, orders: bool, order: &[u8]) -> bool
+fn is_order_shown(layout: Layout, orders: bool, order: &[u8]) -> bool
     ensures { result ≡ has_order layout orders order.now }
 {
     match layout {
@@ -93,7 +103,7 @@ fn has_order(layout: Layout, orders: bool, order: &[u8]) -> bool
 
 /// An order behind an end, if there is to be one.
 #[tactic(auto, unfolding(crate::specs::EveryText::order_behind))]
-fn put_order_behind(
+fn put_order_if_shown(
     out: &mut Vec<u8>,
     layout: Layout,
     orders: bool,
@@ -102,15 +112,15 @@ fn put_order_behind(
     ensures { OnOk result (out.new.items ≡
         out.old.items ++ order_behind layout orders order.now) }
 {
-    if has_order(layout, orders, order) {
-        return put_order(out, layout, order);
+    if is_order_shown(layout, orders, order) {
+        return put_order_of_turns(out, layout, order);
     }
     Ok(())
 }
 
 /// An end. The answer is whether the condition's expression holds in it.
 #[tactic(auto, unfolding(crate::specs::EveryText::end_text))]
-fn put_end(
+fn put_listed_end(
     out: &mut Vec<u8>,
     layout: Layout,
     orders: bool,
@@ -123,16 +133,16 @@ fn put_end(
     ensures held { IfOk result (λ held. held ≡ is_held (test_of test.now) values.now) }
 {
     let held = test.values_hold(values);
-    out.extend_from_slice(mark(layout, held))?;
-    put_values(out, layout, test, values)?;
-    put_either(out, layout, b"", b"}")?;
-    put_order_behind(out, layout, orders, order)?;
-    put_either(out, layout, b"\n", b"}")?;
+    out.extend_from_slice(held_mark(layout, held))?;
+    put_named_values(out, layout, test, values)?;
+    put_by_layout(out, layout, b"", b"}")?;
+    put_order_if_shown(out, layout, orders, order)?;
+    put_by_layout(out, layout, b"\n", b"}")?;
     Ok(held)
 }
 
 /// Each end. The answer is in how many of them the condition's expression holds.
-fn put_ends(
+fn put_listed_ends(
     out: &mut Vec<u8>,
     layout: Layout,
     orders: bool,
@@ -148,8 +158,8 @@ fn put_ends(
     let mut held = 0;
     let mut number = 0;
     while let Some((values, order)) = every.get(number) {
-        put_parting(out, layout, number == 0)?;
-        let is_held = put_end(out, layout, orders, test, values, order)?;
+        put_item_separator(out, layout, number == 0)?;
+        let is_held = put_listed_end(out, layout, orders, test, values, order)?;
         held += usize::from(is_held);
         number += 1;
     }
@@ -157,7 +167,7 @@ fn put_ends(
 }
 
 /// How often the condition's expression holds, in herd7's words.
-fn often(held: usize, ends: usize) -> &'static [u8]
+fn observation_word(held: usize, ends: usize) -> &'static [u8]
     ensures { result.now ≡ often held ends }
 {
     if held == 0 {
@@ -170,7 +180,7 @@ fn often(held: usize, ends: usize) -> &'static [u8]
 }
 
 /// The condition, and in how many ends its expression holds.
-fn put_condition(
+fn put_condition_and_held(
     out: &mut Vec<u8>,
     layout: Layout,
     test: &Test,
@@ -179,12 +189,12 @@ fn put_condition(
     ensures { OnOk result (out.new.items ≡
         out.old.items ++ condition_text layout (test_of test.now) held) }
 {
-    put_word(out, layout, b"condition", quantifier_text(test.condition()))?;
-    put_field(out, layout, b"held", held as u128)
+    put_labelled_word(out, layout, b"condition", quantifier_text(test.condition()))?;
+    put_labelled_number(out, layout, b"held", held as u128)
 }
 
 /// A space and a word.
-fn put_next(out: &mut Vec<u8>, word: &[u8]) -> Result<(), AllocError>
+fn put_spaced_word(out: &mut Vec<u8>, word: &[u8]) -> Result<(), AllocError>
     ensures { OnOk result (out.new.items ≡ out.old.items ++ (32 ∷ word.now)) }
 {
     out.push(b' ')?;
@@ -204,10 +214,10 @@ fn put_observation_line(
 {
     let mut digits = Buffer::new();
     out.extend_from_slice(b"observation")?;
-    put_next(out, test.name())?;
-    put_next(out, often(held, ends))?;
-    put_next(out, digits.format(held).as_bytes())?;
-    put_field(out, Layout::Lines, b"", (ends - held) as u128)?;
+    put_spaced_word(out, test.name())?;
+    put_spaced_word(out, observation_word(held, ends))?;
+    put_spaced_word(out, digits.format(held).as_bytes())?;
+    put_labelled_number(out, Layout::Lines, b"", (ends - held) as u128)?;
     Ok(())
 }
 
@@ -226,7 +236,12 @@ fn put_observation(
 {
     match layout {
         Layout::Lines => put_observation_line(out, test, held, ends),
-        Layout::Json => put_word(out, layout, b"observation", often(held, ends)),
+        Layout::Json => put_labelled_word(
+            out,
+            layout,
+            b"observation",
+            observation_word(held, ends),
+        ),
     }
 }
 
@@ -234,7 +249,7 @@ fn put_observation(
 /// were met and how many ends there are; each end, and whether the condition's expression holds in it, in a line by a
 /// star; and in how many ends it does. An object has an order with each end if orders were asked for.
 #[tactic(auto, unfolding(crate::specs::EveryText::every_text))]
-pub(crate) fn every_text(
+pub(crate) fn ends_list_text(
     alloc: Global,
     layout: Layout,
     test: &Test,
@@ -245,12 +260,12 @@ pub(crate) fn every_text(
 {
     let ends = every.len();
     let mut out = Vec::new(alloc);
-    put_opening(&mut out, layout, b"ends")?;
-    put_head(&mut out, layout, test, every)?;
-    let held = put_ends(&mut out, layout, orders, test, every)?;
+    put_report_opening(&mut out, layout, b"ends")?;
+    put_ends_heading(&mut out, layout, test, every)?;
+    let held = put_listed_ends(&mut out, layout, orders, test, every)?;
     put_list_closing(&mut out, layout)?;
-    put_condition(&mut out, layout, test, held)?;
+    put_condition_and_held(&mut out, layout, test, held)?;
     put_observation(&mut out, layout, test, held, ends)?;
-    put_closing(&mut out, layout)?;
+    put_report_closing(&mut out, layout)?;
     Ok(out)
 }

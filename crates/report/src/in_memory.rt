@@ -10,12 +10,12 @@ ghost use Rattle.report.specs.Verdicts.{HasNoVerdict, IsCheckReport};
 ghost use Rattle.report_lines.specs.declared.layout.Layout.TheVariants.{Lines};
 ghost use Rattle.worker_driver.specs.SetUp.{FollowsPolicy};
 
-use crate::checks::verdict_on;
-use crate::litmus::{litmus_test_of, report_on};
+use crate::checks::check_sources;
+use crate::litmus::{litmus_test_of, report_on_litmus_runs};
 use crate::openings::opening_of;
 use crate::outputs::Report;
 use crate::reports::report_by_policy;
-use crate::texts::trace_of;
+use crate::texts::trace_of_source;
 use byte_streams::{DeviceError, Source};
 use physiological_order::Memory;
 use report_lines::Layout;
@@ -70,7 +70,7 @@ pub fn litmus_report(
         Err(error) => return Err(error),
     };
     match policy_runs_by_options(alloc, &test, options) {
-        Ok(Some(runs)) => report_on(alloc, &test, &runs, options),
+        Ok(Some(runs)) => report_on_litmus_runs(alloc, &test, &runs, options),
         Ok(None) => Err(RunError::BadConfig),
         Err(AllocError) => Err(RunError::NoMemory),
     }
@@ -85,15 +85,19 @@ pub fn trace_report(alloc: Global, text: &[u8], options: &TraceOptions) -> Resul
     ensures refused { IfErr result (HasNoTraceReport options.now (Some text.now)) }
 {
     let mut source = InMemory { rest: text };
-    let trace = match trace_of(alloc, &mut source) {
+    let trace = match trace_of_source(alloc, &mut source) {
         Ok(trace) => trace,
         Err(error) => return Err(error),
     };
-    report_of(alloc, &trace, options)
+    report_of_trace_by_policy(alloc, &trace, options)
 }
 
 // The report on a trace, or its records.
-fn report_of(alloc: Global, trace: &Trace, options: &TraceOptions) -> Result<Report, RunError>
+fn report_of_trace_by_policy(
+    alloc: Global,
+    trace: &Trace,
+    options: &TraceOptions,
+) -> Result<Report, RunError>
     requires { FollowsPolicy options.now.run }
     ensures report { IfOk result (λ report.
         TellsTraceRun options.now trace.now report.all_done report.text.items) }
@@ -122,7 +126,7 @@ pub fn check_report(alloc: Global, trace: &[u8], records: &[u8]) -> Result<Repor
     let mut trace = InMemory { rest: trace };
     let mut records = InMemory { rest: records };
     let zeros = Memory::new(alloc);
-    verdict_on(
+    check_sources(
         alloc,
         &mut trace,
         &mut records,
@@ -154,5 +158,5 @@ pub fn opened_report(
     };
     let mut trace = InMemory { rest: trace };
     let mut records = InMemory { rest: records };
-    verdict_on(alloc, &mut trace, &mut records, &memory, complete, layout)
+    check_sources(alloc, &mut trace, &mut records, &memory, complete, layout)
 }

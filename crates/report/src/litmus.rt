@@ -55,7 +55,7 @@ pub fn run_litmus<R: Threads + Clock + Sync, S: Source, K: Sink>(
     ensures nothing { IfErr result (λ e. e ≢ RunError.Write → sink.new ≡ sink.old) }
 {
     let bytes = read_text(alloc, source)?;
-    let report = report_of(rt, alloc, &bytes, options)?;
+    let report = report_of_litmus_text(rt, alloc, &bytes, options)?;
     let done = Done {
         all_done: report.all_done,
     };
@@ -70,12 +70,12 @@ pub(crate) fn litmus_test_of(alloc: Global, bytes: &[u8]) -> Result<Test, RunErr
 {
     match read(alloc, bytes) {
         Ok(test) => Ok(test),
-        Err(error) => Err(refusal(error)),
+        Err(error) => Err(litmus_refusal(error)),
     }
 }
 
 // The report on the litmus test that these bytes are.
-fn report_of<R: Threads + Clock + Sync>(
+fn report_of_litmus_text<R: Threads + Clock + Sync>(
     rt: &R,
     alloc: Global,
     bytes: &[u8],
@@ -90,14 +90,14 @@ fn report_of<R: Threads + Clock + Sync>(
         Err(error) => return Err(error),
     };
     match runs_by_options(rt, alloc, &test, options) {
-        Ok(Some(runs)) => report_on(alloc, &test, &runs, options),
+        Ok(Some(runs)) => report_on_litmus_runs(alloc, &test, &runs, options),
         Ok(None) => Err(RunError::BadConfig),
         Err(AllocError) => Err(RunError::NoMemory),
     }
 }
 
 /// The report on these runs of a test.
-pub(crate) fn report_on(
+pub(crate) fn report_on_litmus_runs(
     alloc: Global,
     test: &Test,
     runs: &[RunEnd],
@@ -111,14 +111,14 @@ pub(crate) fn report_on(
     match litmus_text(alloc, layout_of(options.json), test, runs) {
         Ok(text) => Ok(Report {
             text,
-            all_done: are_all_done(runs),
+            all_done: are_runs_all_done(runs),
         }),
         Err(AllocError) => Err(RunError::NoMemory),
     }
 }
 
 // Why a text is refused: want of memory is no fault of it.
-fn refusal(error: LitmusError) -> RunError
+fn litmus_refusal(error: LitmusError) -> RunError
     ensures { result ≡ litmus_refusal error }
 {
     if matches!(error.kind, Kind::NoMemory) {
@@ -129,7 +129,7 @@ fn refusal(error: LitmusError) -> RunError
 }
 
 // Whether every run ended all done.
-fn are_all_done(runs: &[RunEnd]) -> bool
+fn are_runs_all_done(runs: &[RunEnd]) -> bool
     ensures { result ≡ list_all (ends_as End.AllDone) runs.now }
 {
     runs.iter().all(|run| matches!(run.end, End::AllDone))

@@ -13,15 +13,15 @@ ghost use Rattle.trace_reader.specs.Steps.{trace_cores, trace_ops};
 ghost use Rattle.report.specs.Runs.{IsTraceRun, IsWatched, bare_report, counter_text, run_text, seen_by};
 ghost use Rattle.report.specs.Runs.{trace_end_of, whole_report};
 
-use crate::trace_programs::programs_of;
-use crate::words::{issued_below, values_of};
+use crate::trace_programs::programs_of_trace;
+use crate::words::{count_issued_operations, values_of_trace_words};
 use event_counts::Counter;
 use interleaving_core::{Config, System};
 use machine_theorem::laws::every_history_is_legal;
 use mailboxes::Run;
 use physiological_order::{Memory, stale_hits};
 use programs::End;
-use report_lines::{Layout, put_closing};
+use report_lines::{Layout, put_report_closing};
 use schedules::{Policy, Watcher, run_watched};
 use shared_jobs::Free;
 use std::alloc::{AllocError, Global};
@@ -40,7 +40,7 @@ pub(crate) struct Ran<M: Drop> {
 }
 
 /// A run of the trace over a memory of zeros, by this policy, with at most so many turns, and its watcher.
-pub(crate) fn run_by_policy<W: Watcher + Drop>(
+pub(crate) fn run_trace_by_policy<W: Watcher + Drop>(
     alloc: Global,
     trace: &Trace,
     config: Config,
@@ -61,7 +61,7 @@ pub(crate) fn run_by_policy<W: Watcher + Drop>(
     let Ok(mut system) = System::new(alloc, config, Memory::new(alloc)) else {
         return Err(AllocError);
     };
-    let mut programs = programs_of(alloc, trace)?;
+    let mut programs = programs_of_trace(alloc, trace)?;
     let steps = programs.as_mut_slice();
     let (end, watcher) = run_watched(alloc, &mut system, steps, watcher, policy, limit);
     // Its contract says that they rise by number.
@@ -75,7 +75,7 @@ pub(crate) fn run_by_policy<W: Watcher + Drop>(
 
 /// A run of the trace over a memory of zeros, by so many threads, with at most so many turns of each core and bank,
 /// those of banks fair or not.
-pub(crate) fn run_by_threads<R: Threads + Clock + Sync>(
+pub(crate) fn run_trace_by_threads<R: Threads + Clock + Sync>(
     rt: &R,
     alloc: Global,
     trace: &Trace,
@@ -95,7 +95,7 @@ pub(crate) fn run_by_threads<R: Threads + Clock + Sync>(
     // Its contract says how few cores there are.
     let _few = trace.cores();
     let memory = Memory::new(alloc);
-    let programs = programs_of(alloc, trace)?;
+    let programs = programs_of_trace(alloc, trace)?;
     let ran = run_seats(
         rt, alloc, config, memory, programs, workers, limit, fair, &Free,
     )?;
@@ -108,7 +108,7 @@ pub(crate) fn run_by_threads<R: Threads + Clock + Sync>(
 }
 
 // What the report says of a run beside its records and its words.
-fn end_of<M: Finished + Drop>(
+fn trace_end_of_run<M: Finished + Drop>(
     alloc: Global,
     trace: &Trace,
     ran: &Ran<M>,
@@ -119,7 +119,7 @@ fn end_of<M: Finished + Drop>(
 {
     let stale = stale_hits(alloc, ran.machine.records())?;
     Ok(TraceEnd {
-        issued: issued_below(&ran.machine, trace.cores()),
+        issued: count_issued_operations(&ran.machine, trace.cores()),
         end: ran.end,
         counts: ran.machine.counts(),
         stale,
@@ -127,7 +127,7 @@ fn end_of<M: Finished + Drop>(
 }
 
 // What a counter has, if there is one.
-fn put_counter(
+fn put_counter_counts(
     out: &mut Vec<u8>,
     layout: Layout,
     counter: Option<&Counter>,
@@ -148,7 +148,7 @@ fn put_counter(
 }
 
 // The report on a run, without what its counter has.
-fn bare_report<M: Finished + Drop>(
+fn report_without_counts<M: Finished + Drop>(
     alloc: Global,
     layout: Layout,
     trace: &Trace,
@@ -159,13 +159,13 @@ fn bare_report<M: Finished + Drop>(
     ensures { IfOk result (λ text. (m : Machine) → M.shows ran.now.machine m →
         text.items ≡ bare_report layout trace.now ran.now.end m) }
 {
-    let end = end_of(alloc, trace, ran)?;
-    let values = values_of(alloc, trace, &ran.machine)?;
+    let end = trace_end_of_run(alloc, trace, ran)?;
+    let values = values_of_trace_words(alloc, trace, &ran.machine)?;
     legal_trace_text(alloc, layout, trace, &end, ran.machine.records(), &values)
 }
 
 // The report on a run, with what its counter has behind it.
-fn whole_report<M: Finished + Drop>(
+fn report_with_counts<M: Finished + Drop>(
     alloc: Global,
     layout: Layout,
     trace: &Trace,
@@ -177,9 +177,9 @@ fn whole_report<M: Finished + Drop>(
     ensures { IfOk result (λ text. (m : Machine) → M.shows ran.now.machine m →
         text.items ≡ whole_report layout trace.now ran.now.end m (seen_by counter.entry)) }
 {
-    let mut text = bare_report(alloc, layout, trace, ran)?;
-    put_counter(&mut text, layout, counter)?;
-    put_closing(&mut text, layout)?;
+    let mut text = report_without_counts(alloc, layout, trace, ran)?;
+    put_counter_counts(&mut text, layout, counter)?;
+    put_report_closing(&mut text, layout)?;
     Ok(text)
 }
 
@@ -202,5 +202,5 @@ pub(crate) fn run_text<M: Finished + Drop>(
     if records {
         return records_text(alloc, ran.machine.records());
     }
-    whole_report(alloc, layout, trace, ran, counter)
+    report_with_counts(alloc, layout, trace, ran, counter)
 }

@@ -4,7 +4,7 @@ ghost use Rattle.byte_streams.specs.Device.{AtEnd};
 ghost use Rattle.report.specs.Openings.{HasNoOpening, IsOpened, as_opening};
 ghost use Rattle.report.specs.Refusals.{refusal};
 
-use crate::texts::refusal;
+use crate::texts::trace_refusal;
 use byte_streams::Source;
 use physiological_order::Memory;
 use run_results::RunError;
@@ -16,7 +16,7 @@ use trace_reader::read_opening;
 fn opening_refusal(error: TraceError) -> RunError
     ensures { result ≡ as_opening (refusal error) }
 {
-    match refusal(error) {
+    match trace_refusal(error) {
         RunError::Trace(fault) => RunError::Opening(fault),
         other => other,
     }

@@ -12,7 +12,7 @@ use streamed_runs::StreamedRun;
 type ProgressLine = ArrayVec<u8, 320>;
 
 // How often so many million operations are completed; never, if no number is given, or 0.
-fn times_passed(every: Option<u64>, completed: usize) -> u128
+fn multiples_completed(every: Option<u64>, completed: usize) -> u128
     ensures { result ≡ times_passed every completed }
 {
     match every {
@@ -22,7 +22,7 @@ fn times_passed(every: Option<u64>, completed: usize) -> u128
 }
 
 // More bytes after those of the line.
-fn put(line: &mut ProgressLine, bytes: &[u8])
+fn put_progress_bytes(line: &mut ProgressLine, bytes: &[u8])
     requires { length line.old.items + length bytes.now ≤ 320 }
     ensures { line.new.items ≡ line.old.items ++ bytes.now }
 {
@@ -30,14 +30,14 @@ fn put(line: &mut ProgressLine, bytes: &[u8])
 }
 
 // A number more, and what it is of.
-fn put_amount(line: &mut ProgressLine, number: u128, of_what: &[u8])
+fn put_progress_amount(line: &mut ProgressLine, number: u128, of_what: &[u8])
     requires { length line.old.items + 40 + length of_what.now ≤ 320 }
     ensures text { line.new.items ≡ line.old.items ++ amount number of_what.now }
     ensures short { length line.new.items ≤ length line.old.items + 40 + length of_what.now }
 {
     let mut digits = Buffer::new();
-    put(line, digits.format(number).as_bytes());
-    put(line, of_what);
+    put_progress_bytes(line, digits.format(number).as_bytes());
+    put_progress_bytes(line, of_what);
 }
 
 // The line of a run.
@@ -45,20 +45,20 @@ fn progress_line(run: &StreamedRun) -> ProgressLine
     ensures { result.items ≡ progress_line run.now.kinds.completed run.now.stale run.now.machine }
 {
     let mut line = ProgressLine::new();
-    put(&mut line, b"tardis: ");
+    put_progress_bytes(&mut line, b"tardis: ");
     let counts = run.counts();
-    put_amount(&mut line, run.kinds().completed as u128, b" operations, ");
-    put_amount(&mut line, counts.renewals, b" renewals, ");
-    put_amount(&mut line, counts.upgrades, b" upgrades, ");
-    put_amount(&mut line, counts.flushes, b" flushes, ");
-    put_amount(&mut line, counts.write_backs, b" write-backs, ");
-    put_amount(&mut line, u128::from(run.stale()), b" stale hits\n");
+    put_progress_amount(&mut line, run.kinds().completed as u128, b" operations, ");
+    put_progress_amount(&mut line, counts.renewals, b" renewals, ");
+    put_progress_amount(&mut line, counts.upgrades, b" upgrades, ");
+    put_progress_amount(&mut line, counts.flushes, b" flushes, ");
+    put_progress_amount(&mut line, counts.write_backs, b" write-backs, ");
+    put_progress_amount(&mut line, u128::from(run.stale_hits()), b" stale hits\n");
     line
 }
 
 /// Tells how far the run is if a line is due behind its last piece, and if no write failed before. `before` is how many
 /// operations were completed before that piece. The result is whether no write has failed yet.
-pub(crate) fn tell_progress<E: Sink>(
+pub(crate) fn write_progress_if_due<E: Sink>(
     errors: &mut E,
     goes: bool,
     every: Option<u64>,
@@ -74,7 +74,7 @@ pub(crate) fn tell_progress<E: Sink>(
     if !goes {
         return false;
     }
-    if times_passed(every, before) >= times_passed(every, run.kinds().completed) {
+    if multiples_completed(every, before) >= multiples_completed(every, run.kinds().completed) {
         return true;
     }
     let line = progress_line(run);

@@ -16,9 +16,9 @@ ghost use Rattle.report.specs.Reports.{is_counted};
 ghost use Rattle.trace_reader.specs.Steps.{trace_cores, trace_ops};
 ghost use Rattle.report.specs.Runs.{is_all_done, seen_by};
 
-use crate::one_run::{Ran, run_by_policy, run_by_threads, run_text};
+use crate::one_run::{Ran, run_text, run_trace_by_policy, run_trace_by_threads};
 use crate::outputs::{Report, layout_of, write_report};
-use crate::texts::trace_of;
+use crate::texts::trace_of_source;
 use byte_streams::{Sink, Source};
 use event_counts::Counter;
 use interleaving_core::Config;
@@ -64,11 +64,11 @@ pub fn run_trace<R: Threads + Clock + Sync, S: Source, K: Sink>(
         (K.failures sink.old) (K.failures sink.new) }
     ensures nothing { IfErr result (λ e. e ≢ RunError.Write → sink.new ≡ sink.old) }
 {
-    let trace = match trace_of(alloc, source) {
+    let trace = match trace_of_source(alloc, source) {
         Ok(trace) => trace,
         Err(error) => return Err(error),
     };
-    let report = match report_of(rt, alloc, &trace, options) {
+    let report = match report_of_trace(rt, alloc, &trace, options) {
         Ok(report) => report,
         Err(error) => return Err(error),
     };
@@ -79,7 +79,7 @@ pub fn run_trace<R: Threads + Clock + Sync, S: Source, K: Sink>(
 }
 
 // The report on a trace, or its records.
-fn report_of<R: Threads + Clock + Sync>(
+fn report_of_trace<R: Threads + Clock + Sync>(
     rt: &R,
     alloc: Global,
     trace: &Trace,
@@ -92,14 +92,14 @@ fn report_of<R: Threads + Clock + Sync>(
     let Some(config) = config_of(&options.run.machine, trace.cores()) else {
         return Err(RunError::BadConfig);
     };
-    match run_and_report(rt, alloc, trace, config, options) {
+    match run_and_report_trace(rt, alloc, trace, config, options) {
         Ok(report) => Ok(report),
         Err(AllocError) => Err(RunError::NoMemory),
     }
 }
 
 // A run of the trace on this machine, as it is told.
-fn run_and_report<R: Threads + Clock + Sync>(
+fn run_and_report_trace<R: Threads + Clock + Sync>(
     rt: &R,
     alloc: Global,
     trace: &Trace,
@@ -132,13 +132,13 @@ pub(crate) fn report_by_policy(
         TellsTraceRun options.now trace.now report.all_done report.text.items) }
 {
     let limit = limit_of(&options.run);
-    if is_counted(options) {
+    if are_counts_asked(options) {
         let counter = Counter::new(alloc, config.cores, config.banks, options.every)?;
-        let (ran, counter) = run_by_policy(alloc, trace, config, policy, limit, counter)?;
-        return report_on(alloc, trace, &ran, options, Some(&counter));
+        let (ran, counter) = run_trace_by_policy(alloc, trace, config, policy, limit, counter)?;
+        return report_on_trace_run(alloc, trace, &ran, options, Some(&counter));
     }
-    let (ran, _) = run_by_policy(alloc, trace, config, policy, limit, ())?;
-    report_on(alloc, trace, &ran, options, None)
+    let (ran, _) = run_trace_by_policy(alloc, trace, config, policy, limit, ())?;
+    report_on_trace_run(alloc, trace, &ran, options, None)
 }
 
 // A run of the trace by threads, as it is told, with fair turns of banks or not.
@@ -157,12 +157,12 @@ fn report_by_threads<R: Threads + Clock + Sync>(
         TellsTraceRun options.now trace.now report.all_done report.text.items) }
 {
     let (limit, workers) = (limit_of(&options.run), workers_of(&options.run));
-    let ran = run_by_threads(rt, alloc, trace, config, limit, workers, fair)?;
-    report_on(alloc, trace, &ran, options, None)
+    let ran = run_trace_by_threads(rt, alloc, trace, config, limit, workers, fair)?;
+    report_on_trace_run(alloc, trace, &ran, options, None)
 }
 
 // What is told of a run that had this counter, or none.
-fn report_on<M: Finished + Drop>(
+fn report_on_trace_run<M: Finished + Drop>(
     alloc: Global,
     trace: &Trace,
     ran: &Ran<M>,
@@ -184,7 +184,7 @@ fn report_on<M: Finished + Drop>(
 }
 
 // Whether a trace's counts are asked for, and not its records.
-fn is_counted(options: &TraceOptions) -> bool
+fn are_counts_asked(options: &TraceOptions) -> bool
     ensures { result ≡ is_counted options.now }
 {
     options.counts && !options.records

@@ -13,11 +13,11 @@ ghost use Rattle.report.specs.StreamParts.{text_if, text_unless};
 ghost use Rattle.report.specs.Streams.{IsStreamFault, stream_config};
 
 use crate::outputs::{layout_of, write_text};
-use crate::texts::refusal;
+use crate::texts::trace_refusal;
 use byte_streams::{Sink, Source};
 use interleaving_core::Config;
 use physiological_order::Record;
-use report_lines::{Layout, put_closing};
+use report_lines::{Layout, put_report_closing};
 use run_options::StreamOptions;
 use run_results::RunError;
 use std::alloc::{AllocError, Global};
@@ -40,7 +40,7 @@ pub(crate) fn stream_config(options: &StreamOptions) -> Option<Config>
 }
 
 /// Whether the report is to have the words that the trace names.
-pub(crate) fn asks_words(options: &StreamOptions) -> bool
+pub(crate) fn are_words_asked(options: &StreamOptions) -> bool
     ensures { result ≡ (options.now.words && not options.now.records) }
 {
     options.words && !options.records
@@ -51,7 +51,7 @@ fn ahead_refusal(error: AheadError) -> RunError
     ensures { result ≡ ahead_refusal error }
 {
     match error {
-        AheadError::Text(error) => refusal(error),
+        AheadError::Text(error) => trace_refusal(error),
         AheadError::NoQueue(line) => RunError::Trace(TraceError {
             line,
             kind: Kind::BadCore,
@@ -74,14 +74,17 @@ pub(crate) fn make_piece<S: Source>(run: &mut StreamedRun, source: &mut S) -> Re
         IsUnread (IsStreamFault options.cores known) (Unit {0})
         (S.failures source.old) (S.failures source.new) e) }
 {
-    match run.go_on(source) {
+    match run.run_next_piece(source) {
         Ok(goes_on) => Ok(goes_on),
         Err(error) => Err(ahead_refusal(error)),
     }
 }
 
 /// Reads the rest of the text, once the run is over.
-pub(crate) fn read_rest<S: Source>(run: &mut StreamedRun, source: &mut S) -> Result<(), RunError>
+pub(crate) fn read_rest_of_trace<S: Source>(
+    run: &mut StreamedRun,
+    source: &mut S,
+) -> Result<(), RunError>
     ensures ended { OnOk result ((options : StreamOptions) (known : Option (List ℕ)) →
         IsRunning options known run.old (S.remaining source.old) → IsOver run.old →
         HasRun options known run.new (S.remaining source.new)) }
@@ -92,14 +95,14 @@ pub(crate) fn read_rest<S: Source>(run: &mut StreamedRun, source: &mut S) -> Res
         IsUnread (IsStreamFault options.cores known) (Unit {0})
         (S.failures source.old) (S.failures source.new) e) }
 {
-    match run.finish(source) {
+    match run.read_rest_of_text(source) {
         Ok(()) => Ok(()),
         Err(error) => Err(ahead_refusal(error)),
     }
 }
 
 /// Writes the text of records, if they are asked for.
-pub(crate) fn write_records<K: Sink>(
+pub(crate) fn write_records_if_asked<K: Sink>(
     alloc: Global,
     sink: &mut K,
     asked: bool,
@@ -122,19 +125,23 @@ pub(crate) fn write_records<K: Sink>(
 }
 
 // The report on a run that has ended.
-fn ended_text(alloc: Global, layout: Layout, run: &StreamedRun) -> Result<Vec<u8>, AllocError>
+fn text_of_ended_run(
+    alloc: Global,
+    layout: Layout,
+    run: &StreamedRun,
+) -> Result<Vec<u8>, AllocError>
     ensures { IfOk result (λ text. text.items ≡ ended_text layout run.now) }
 {
     let end = TraceEnd {
         issued: run.issued(),
         end: run.end(),
         counts: run.counts(),
-        stale: run.stale(),
+        stale: run.stale_hits(),
     };
     let values = run.values()?;
-    let cores = run.met().max(1);
+    let cores = run.cores_met().max(1);
     let mut text = told_trace_text(alloc, layout, cores, &end, run.kinds(), &values)?;
-    put_closing(&mut text, layout)?;
+    put_report_closing(&mut text, layout)?;
     Ok(text)
 }
 
@@ -155,7 +162,7 @@ pub(crate) fn write_end_report<K: Sink>(
     if options.records {
         return Ok(());
     }
-    let Ok(text) = ended_text(alloc, layout_of(options.json), run) else {
+    let Ok(text) = text_of_ended_run(alloc, layout_of(options.json), run) else {
         return Err(RunError::NoMemory);
     };
     write_text(sink, &text)

@@ -10,10 +10,11 @@ ghost use Rattle.report.specs.Progress.{IsProgress, IsToldReport};
 ghost use Rattle.report.specs.StreamParts.{IsRunning, IsStopped};
 ghost use Rattle.report.specs.Streams.{HasNoStream, IsBegun, IsStreamReport, IsStreamText, stream_config};
 
-use crate::progress::tell_progress;
+use crate::progress::write_progress_if_due;
 use crate::reports::is_all_done;
 use crate::stream_parts::{
-    asks_words, make_piece, read_rest, stream_config, write_end_report, write_records,
+    are_words_asked, make_piece, read_rest_of_trace, stream_config, write_end_report,
+    write_records_if_asked,
 };
 use byte_streams::{Sink, Source};
 use interleaving_core::Config;
@@ -120,7 +121,7 @@ fn stream_on_machine<S: Source, K: Sink, E: Sink>(
         (K.contents sink.old) (K.contents sink.new) (S.failures source.old) (S.failures source.new)
         (K.failures sink.old) (K.failures sink.new)) }
 {
-    let (names, limit) = (asks_words(options), limit_of(&options.run));
+    let (names, limit) = (are_words_asked(options), limit_of(&options.run));
     let Ok(mut run) = StreamedRun::new(alloc, config, policy, limit, names) else {
         return Err(RunError::NoMemory);
     };
@@ -166,12 +167,12 @@ fn stream_in_pieces<S: Source, K: Sink, E: Sink>(
             Ok(goes_on) => goes_on,
             Err(error) => return Err(error),
         };
-        if let Err(error) = write_records(alloc, sink, options.records, run.done()) {
+        if let Err(error) = write_records_if_asked(alloc, sink, options.records, run.done()) {
             return Err(error);
         }
-        tells = tell_progress(errors, tells, options.progress, before, run);
+        tells = write_progress_if_due(errors, tells, options.progress, before, run);
     }
-    if let Err(error) = read_rest(run, source) {
+    if let Err(error) = read_rest_of_trace(run, source) {
         return Err(error);
     }
     if let Err(error) = write_end_report(alloc, sink, options, run) {

@@ -15,7 +15,7 @@ use trace_lines::{Kind, TraceError};
 use trace_reader::{Trace, read, read_records};
 
 /// Why a text is refused: a failed call and lack of memory are no faults of it.
-pub(crate) fn refusal(error: TraceError) -> RunError
+pub(crate) fn trace_refusal(error: TraceError) -> RunError
     ensures { result ≡ refusal error }
 {
     match error.kind {
@@ -26,7 +26,7 @@ pub(crate) fn refusal(error: TraceError) -> RunError
 }
 
 /// The trace that is all that the source has.
-pub(crate) fn trace_of<S: Source>(alloc: Global, source: &mut S) -> Result<Trace, RunError>
+pub(crate) fn trace_of_source<S: Source>(alloc: Global, source: &mut S) -> Result<Trace, RunError>
     ensures read { IfOk result (IsRead (S.remaining source.old)) }
     ensures end { OnOk result (IfSome (S.remaining source.old)
         (λ known. AtEnd (S.remaining source.new))) }
@@ -37,12 +37,15 @@ pub(crate) fn trace_of<S: Source>(alloc: Global, source: &mut S) -> Result<Trace
 {
     match read(alloc, source) {
         Ok(trace) => Ok(trace),
-        Err(error) => Err(refusal(error)),
+        Err(error) => Err(trace_refusal(error)),
     }
 }
 
 /// The records that are all that the source has.
-pub(crate) fn records_of<S: Source>(alloc: Global, source: &mut S) -> Result<Vec<Record>, RunError>
+pub(crate) fn records_of_source<S: Source>(
+    alloc: Global,
+    source: &mut S,
+) -> Result<Vec<Record>, RunError>
     ensures read { IfOk result (λ records. AreRead (S.remaining source.old) records.items) }
     ensures end { OnOk result (IfSome (S.remaining source.old)
         (λ known. AtEnd (S.remaining source.new))) }
@@ -53,6 +56,6 @@ pub(crate) fn records_of<S: Source>(alloc: Global, source: &mut S) -> Result<Vec
 {
     match read_records(alloc, source) {
         Ok(records) => Ok(records),
-        Err(error) => Err(refusal(error)),
+        Err(error) => Err(trace_refusal(error)),
     }
 }

@@ -8,7 +8,7 @@ use std::alloc::{AllocError, Global};
 use trace_reader::Trace;
 
 /// The steps of each core as its program.
-pub(crate) fn programs_of<'a>(
+pub(crate) fn programs_of_trace<'a>(
     alloc: Global,
     trace: &'a Trace,
 ) -> Result<Vec<StepProgram<'a>>, AllocError>

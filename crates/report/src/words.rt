@@ -13,7 +13,7 @@ use trace_reader::Trace;
 use worker_driver::Finished;
 
 // The words of operations, beside those that are there.
-fn add_words(words: &mut Memory, ops: &[Op]) -> Result<(), AllocError>
+fn add_words_of_ops(words: &mut Memory, ops: &[Op]) -> Result<(), AllocError>
     ensures { OnOk result (words.new ≡ with_words words.old ops.now) }
 {
     for op in ops {
@@ -23,18 +23,18 @@ fn add_words(words: &mut Memory, ops: &[Op]) -> Result<(), AllocError>
 }
 
 // The words that the operations of a trace name.
-fn words_of(alloc: Global, trace: &Trace) -> Result<Memory, AllocError>
+fn words_of_trace(alloc: Global, trace: &Trace) -> Result<Memory, AllocError>
     ensures { IfOk result (λ words. words ≡ words_below trace.now (trace_cores trace.now)) }
 {
     let mut words = Memory::new(alloc);
     for core in 0..trace.cores() {
-        add_words(&mut words, trace.ops(core))?;
+        add_words_of_ops(&mut words, trace.ops(core))?;
     }
     Ok(words)
 }
 
 // The words that a memory has, by rising address.
-fn named_in(alloc: Global, words: &Memory) -> Result<Vec<WordAddr>, AllocError>
+fn addresses_in_memory(alloc: Global, words: &Memory) -> Result<Vec<WordAddr>, AllocError>
     ensures { IfOk result (λ named. named.items ≡ map (λ entry. entry.0) (entries words.now)) }
 {
     let entries = words.words()?;
@@ -46,7 +46,7 @@ fn named_in(alloc: Global, words: &Memory) -> Result<Vec<WordAddr>, AllocError>
 }
 
 // The values of words, where they stand.
-fn values_in<M: Finished>(
+fn values_of_words<M: Finished>(
     alloc: Global,
     machine: &M,
     words: &Memory,
@@ -54,7 +54,7 @@ fn values_in<M: Finished>(
     ensures { IfOk result (λ values. (m : Machine) → M.shows machine.now m →
         values.items ≡ values_in m words.now) }
 {
-    let named = named_in(alloc, words)?;
+    let named = addresses_in_memory(alloc, words)?;
     let values = machine.values(alloc, &named)?;
     let mut pairs = Vec::with_capacity(alloc, named.len())?;
     for (word, value) in named.iter().zip(values.iter()) {
@@ -64,7 +64,7 @@ fn values_in<M: Finished>(
 }
 
 /// The words that the operations of a trace name, by rising address, with their values, where they are.
-pub(crate) fn values_of<M: Finished>(
+pub(crate) fn values_of_trace_words<M: Finished>(
     alloc: Global,
     trace: &Trace,
     machine: &M,
@@ -72,12 +72,12 @@ pub(crate) fn values_of<M: Finished>(
     ensures { IfOk result (λ values. (m : Machine) → M.shows machine.now m →
         values.items ≡ values_in m (words_below trace.now (trace_cores trace.now))) }
 {
-    let words = words_of(alloc, trace)?;
-    values_in(alloc, machine, &words)
+    let words = words_of_trace(alloc, trace)?;
+    values_of_words(alloc, machine, &words)
 }
 
 /// How many operations the cores below a number were issued.
-pub(crate) fn issued_below<M: Finished>(machine: &M, cores: u32) -> u128
+pub(crate) fn count_issued_operations<M: Finished>(machine: &M, cores: u32) -> u128
     requires { (m : Machine) × M.shows machine.now m }
     ensures { (m : Machine) → M.shows machine.now m → result ≡ issued_below m cores }
 {

@@ -4,7 +4,7 @@ ghost use Rattle.std.specs.Prelude.{◌≡◌, ◌++◌, OnOk};
 ghost use Rattle.report_lines.specs.Layouts.{closing, command_text, either, list_closing, list_opening};
 ghost use Rattle.report_lines.specs.Layouts.{opening, parting};
 
-use crate::lines::{put_line, put_member, put_word_member};
+use crate::lines::{put_labelled_line, put_member, put_word_member};
 use itoa::Buffer;
 use std::alloc::AllocError;
 
@@ -18,7 +18,7 @@ pub enum Layout {
 
 /// The first text in lines, the other in an object. If allocation fails, part of it may be in the text.
 #[tactic(auto, unfolding(crate::specs::Layouts::either))]
-pub fn put_either(
+pub fn put_by_layout(
     out: &mut Vec<u8>,
     layout: Layout,
     lines: &[u8],
@@ -35,7 +35,11 @@ pub fn put_either(
 /// What a report begins with: in lines nothing, in an object its version and the command. If allocation fails, part of
 /// it may be in the text.
 #[tactic(auto, unfolding(crate::specs::Layouts::opening))]
-pub fn put_opening(out: &mut Vec<u8>, layout: Layout, command: &[u8]) -> Result<(), AllocError>
+pub fn put_report_opening(
+    out: &mut Vec<u8>,
+    layout: Layout,
+    command: &[u8],
+) -> Result<(), AllocError>
     ensures { OnOk result (out.new.items ≡ out.old.items ++ opening layout command.now) }
 {
     match layout {
@@ -55,10 +59,10 @@ fn put_command(out: &mut Vec<u8>, command: &[u8]) -> Result<(), AllocError>
 /// What a report ends with: in lines nothing, for an object its brace and a line feed. If allocation fails, part of it
 /// may be in the text.
 #[tactic(auto, unfolding(crate::specs::Layouts::closing))]
-pub fn put_closing(out: &mut Vec<u8>, layout: Layout) -> Result<(), AllocError>
+pub fn put_report_closing(out: &mut Vec<u8>, layout: Layout) -> Result<(), AllocError>
     ensures { OnOk result (out.new.items ≡ out.old.items ++ closing layout) }
 {
-    put_either(out, layout, b"", b"}\n")
+    put_by_layout(out, layout, b"", b"}\n")
 }
 
 /// What stands before the items of a list: in lines how many there are, in an object the member that has them. If
@@ -74,7 +78,7 @@ pub fn put_list_opening(
 {
     let mut digits = Buffer::new();
     match layout {
-        Layout::Lines => put_line(out, label, digits.format(count as u64).as_bytes()),
+        Layout::Lines => put_labelled_line(out, label, digits.format(count as u64).as_bytes()),
         Layout::Json => put_member(out, label, b"["),
     }
 }
@@ -84,16 +88,16 @@ pub fn put_list_opening(
 pub fn put_list_closing(out: &mut Vec<u8>, layout: Layout) -> Result<(), AllocError>
     ensures { OnOk result (out.new.items ≡ out.old.items ++ list_closing layout) }
 {
-    put_either(out, layout, b"", b"]")
+    put_by_layout(out, layout, b"", b"]")
 }
 
 /// What stands before an item of a list: in lines nothing, in an object a comma, but not before the first.
 #[tactic(auto, unfolding(crate::specs::Layouts::parting))]
-pub fn put_parting(out: &mut Vec<u8>, layout: Layout, first: bool) -> Result<(), AllocError>
+pub fn put_item_separator(out: &mut Vec<u8>, layout: Layout, first: bool) -> Result<(), AllocError>
     ensures { OnOk result (out.new.items ≡ out.old.items ++ parting layout first) }
 {
     if first {
         return Ok(());
     }
-    put_either(out, layout, b"", b",")
+    put_by_layout(out, layout, b"", b",")
 }

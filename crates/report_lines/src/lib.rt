@@ -7,6 +7,7 @@ mod lines;
 
 pub use addresses::{put_address, write_address};
 pub use layout::{
-    Layout, put_closing, put_either, put_list_closing, put_list_opening, put_opening, put_parting,
+    Layout, put_by_layout, put_item_separator, put_list_closing, put_list_opening,
+    put_report_closing, put_report_opening,
 };
-pub use lines::{put_counts, put_field, put_value, put_word};
+pub use lines::{put_labelled_number, put_labelled_word, put_memory_word, put_message_counts};

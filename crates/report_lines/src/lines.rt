@@ -6,14 +6,18 @@ ghost use Rattle.report_lines.specs.Lines.{counts_text, field, value_text, word_
 ghost use Rattle.report_lines.specs.Members.{line, member, word_member};
 
 use crate::addresses::put_address;
-use crate::layout::{Layout, put_either};
+use crate::layout::{Layout, put_by_layout};
 use itoa::Buffer;
 use network::Counts;
 use physiological_order::WordAddr;
 use std::alloc::AllocError;
 
 /// A line: a label, a space and a text.
-pub(crate) fn put_line(out: &mut Vec<u8>, label: &[u8], text: &[u8]) -> Result<(), AllocError>
+pub(crate) fn put_labelled_line(
+    out: &mut Vec<u8>,
+    label: &[u8],
+    text: &[u8],
+) -> Result<(), AllocError>
     ensures { OnOk result (out.new.items ≡ out.old.items ++ line label.now text.now) }
 {
     out.extend_from_slice(label)?;
@@ -49,7 +53,7 @@ pub(crate) fn put_word_member(
 
 /// A label and a number: a line, or a member behind another. If allocation fails, part of it may be in the text.
 #[tactic(auto, unfolding(crate::specs::Lines::field))]
-pub fn put_field(
+pub fn put_labelled_number(
     out: &mut Vec<u8>,
     layout: Layout,
     label: &[u8],
@@ -59,7 +63,7 @@ pub fn put_field(
 {
     let mut digits = Buffer::new();
     match layout {
-        Layout::Lines => put_line(out, label, digits.format(value).as_bytes()),
+        Layout::Lines => put_labelled_line(out, label, digits.format(value).as_bytes()),
         Layout::Json => put_member(out, label, digits.format(value).as_bytes()),
     }
 }
@@ -67,7 +71,7 @@ pub fn put_field(
 /// A label and a word: a line, or a member behind another, with the word between quotation marks. If allocation fails,
 /// part of it may be in the text.
 #[tactic(auto, unfolding(crate::specs::Lines::word_field))]
-pub fn put_word(
+pub fn put_labelled_word(
     out: &mut Vec<u8>,
     layout: Layout,
     label: &[u8],
@@ -76,24 +80,28 @@ pub fn put_word(
     ensures { OnOk result (out.new.items ≡ out.old.items ++ word_field layout label.now word.now) }
 {
     match layout {
-        Layout::Lines => put_line(out, label, word),
+        Layout::Lines => put_labelled_line(out, label, word),
         Layout::Json => put_word_member(out, label, word),
     }
 }
 
 /// How many renewals, upgrades, flushes and write-backs were sent. If allocation fails, some of it may be in the text.
-pub fn put_counts(out: &mut Vec<u8>, layout: Layout, counts: Counts) -> Result<(), AllocError>
+pub fn put_message_counts(
+    out: &mut Vec<u8>,
+    layout: Layout,
+    counts: Counts,
+) -> Result<(), AllocError>
     ensures { OnOk result (out.new.items ≡ out.old.items ++ counts_text layout counts) }
 {
-    put_field(out, layout, b"renewals", counts.renewals)?;
-    put_field(out, layout, b"upgrades", counts.upgrades)?;
-    put_field(out, layout, b"flushes", counts.flushes)?;
-    put_field(out, layout, b"write-backs", counts.write_backs)
+    put_labelled_number(out, layout, b"renewals", counts.renewals)?;
+    put_labelled_number(out, layout, b"upgrades", counts.upgrades)?;
+    put_labelled_number(out, layout, b"flushes", counts.flushes)?;
+    put_labelled_number(out, layout, b"write-backs", counts.write_backs)
 }
 
 /// A word of memory, by its address, and its value: a line, or an object's first member. If allocation fails, part of
 /// it may be in the text.
-pub fn put_value(
+pub fn put_memory_word(
     out: &mut Vec<u8>,
     layout: Layout,
     word: WordAddr,
@@ -102,9 +110,9 @@ pub fn put_value(
     ensures { OnOk result (out.new.items ≡ out.old.items ++ value_text layout word value) }
 {
     let mut digits = Buffer::new();
-    put_either(out, layout, b"word ", b"\"")?;
+    put_by_layout(out, layout, b"word ", b"\"")?;
     put_address(out, word)?;
-    put_either(out, layout, b" ", b"\":")?;
+    put_by_layout(out, layout, b" ", b"\":")?;
     out.extend_from_slice(digits.format(value).as_bytes())?;
-    put_either(out, layout, b"\n", b"")
+    put_by_layout(out, layout, b"\n", b"")
 }

@@ -20,7 +20,7 @@ pub(crate) struct Endings {
     pub held: usize,
 }
 
-fn ends_as(run: &RunEnd, end: End) -> bool
+fn run_ends_as(run: &RunEnd, end: End) -> bool
     ensures { result ≡ ends_as end run.now }
 {
     match (run.end, end) {
@@ -34,7 +34,7 @@ fn ends_as(run: &RunEnd, end: End) -> bool
 }
 
 /// Whether a run is all done with an end state in which the condition's expression holds.
-fn is_held(test: &Test, run: &RunEnd) -> bool
+fn condition_holds_in_run(test: &Test, run: &RunEnd) -> bool
     ensures { result ≡ condition_holds (test_of test.now) run.now }
 {
     match (run.end, &run.state) {
@@ -44,22 +44,22 @@ fn is_held(test: &Test, run: &RunEnd) -> bool
 }
 
 /// One more run.
-fn with_run(test: &Test, endings: Endings, run: &RunEnd) -> Endings
+fn endings_with_run(test: &Test, endings: Endings, run: &RunEnd) -> Endings
     requires { AreFew endings }
     ensures { result ≡ with_run (test_of test.now) endings run.now }
 {
     Endings {
-        all_done: endings.all_done + usize::from(ends_as(run, End::AllDone)),
-        stalled: endings.stalled + usize::from(ends_as(run, End::Stalled)),
-        turns_used: endings.turns_used + usize::from(ends_as(run, End::TurnsUsed)),
-        exhausted: endings.exhausted + usize::from(ends_as(run, End::Exhausted)),
-        no_memory: endings.no_memory + usize::from(ends_as(run, End::NoMemory)),
-        held: endings.held + usize::from(is_held(test, run)),
+        all_done: endings.all_done + usize::from(run_ends_as(run, End::AllDone)),
+        stalled: endings.stalled + usize::from(run_ends_as(run, End::Stalled)),
+        turns_used: endings.turns_used + usize::from(run_ends_as(run, End::TurnsUsed)),
+        exhausted: endings.exhausted + usize::from(run_ends_as(run, End::Exhausted)),
+        no_memory: endings.no_memory + usize::from(run_ends_as(run, End::NoMemory)),
+        held: endings.held + usize::from(condition_holds_in_run(test, run)),
     }
 }
 
 /// How these runs ended.
-pub(crate) fn endings_of(test: &Test, runs: &[RunEnd]) -> Endings
+pub(crate) fn count_run_endings(test: &Test, runs: &[RunEnd]) -> Endings
     ensures { result ≡ endings_of (test_of test.now) runs.now }
 {
     let mut endings = Endings {
@@ -71,7 +71,7 @@ pub(crate) fn endings_of(test: &Test, runs: &[RunEnd]) -> Endings
         held: 0,
     };
     for run in runs {
-        endings = with_run(test, endings, run);
+        endings = endings_with_run(test, endings, run);
     }
     endings
 }

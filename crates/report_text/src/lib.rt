@@ -8,6 +8,6 @@ mod states;
 mod sums;
 mod text;
 
-pub use lines::{put_values, quantifier_text};
+pub use lines::{put_named_values, quantifier_text};
 pub use run_end::RunEnd;
 pub use text::litmus_text;

@@ -7,7 +7,7 @@ ghost use Rattle.report_text.specs.Lines.{quantifier_text, times_text};
 
 use itoa::Buffer;
 use litmus_reader::{Name, Quantifier, Test};
-use report_lines::{Layout, put_either, put_parting};
+use report_lines::{Layout, put_by_layout, put_item_separator};
 use std::alloc::AllocError;
 
 /// The condition's first word, as it is written.
@@ -21,7 +21,7 @@ pub fn quantifier_text(quantifier: Quantifier) -> &'static [u8]
     }
 }
 
-fn put_register(out: &mut Vec<u8>, thread: u8, register: u8) -> Result<(), AllocError>
+fn put_register_name(out: &mut Vec<u8>, thread: u8, register: u8) -> Result<(), AllocError>
     ensures { OnOk result (out.new.items ≡ out.old.items ++ register_text thread register) }
 {
     let mut digits = Buffer::new();
@@ -32,12 +32,12 @@ fn put_register(out: &mut Vec<u8>, thread: u8, register: u8) -> Result<(), Alloc
 }
 
 /// A name of the condition: `T:xR` or the name of a location.
-fn put_name(out: &mut Vec<u8>, test: &Test, name: Name) -> Result<(), AllocError>
+fn put_condition_name(out: &mut Vec<u8>, test: &Test, name: Name) -> Result<(), AllocError>
     ensures { OnOk result (out.new.items ≡
         out.old.items ++ name_text (test_of test.now).locations name) }
 {
     match name {
-        Name::Register(thread, register) => put_register(out, thread, register)?,
+        Name::Register(thread, register) => put_register_name(out, thread, register)?,
         Name::Location(number) => {
             out.extend_from_slice(test.location(number).unwrap_or(b""))?;
         }
@@ -46,7 +46,7 @@ fn put_name(out: &mut Vec<u8>, test: &Test, name: Name) -> Result<(), AllocError
 }
 
 /// A name of the condition and its value.
-fn put_value(
+fn put_named_value(
     out: &mut Vec<u8>,
     layout: Layout,
     test: &Test,
@@ -57,15 +57,15 @@ fn put_value(
         out.old.items ++ value_text layout (test_of test.now).locations name value) }
 {
     let mut digits = Buffer::new();
-    put_either(out, layout, b" ", b"\"")?;
-    put_name(out, test, name)?;
-    put_either(out, layout, b"=", b"\":")?;
+    put_by_layout(out, layout, b" ", b"\"")?;
+    put_condition_name(out, test, name)?;
+    put_by_layout(out, layout, b"=", b"\":")?;
     out.extend_from_slice(digits.format(value).as_bytes())
 }
 
 /// The condition's names with their values, in order: in a line each behind a space, in an object its members. If
 /// allocation fails, part of them may be in the text.
-pub fn put_values(
+pub fn put_named_values(
     out: &mut Vec<u8>,
     layout: Layout,
     test: &Test,
@@ -81,8 +81,8 @@ pub fn put_values(
         let Some((value, more)) = left.split_first() else {
             return Ok(());
         };
-        put_parting(out, layout, first)?;
-        put_value(out, layout, test, *name, *value)?;
+        put_item_separator(out, layout, first)?;
+        put_named_value(out, layout, test, *name, *value)?;
         names = more_names;
         left = more;
         first = false;
@@ -92,18 +92,18 @@ pub fn put_values(
 
 /// How often an end state occurred, before its values.
 #[tactic(auto, unfolding(crate::specs::Lines::times_text))]
-fn put_times(out: &mut Vec<u8>, layout: Layout, count: u64) -> Result<(), AllocError>
+fn put_state_count(out: &mut Vec<u8>, layout: Layout, count: u64) -> Result<(), AllocError>
     ensures { OnOk result (out.new.items ≡ out.old.items ++ times_text layout count) }
 {
     let mut digits = Buffer::new();
-    put_either(out, layout, b"", b"{\"count\":")?;
+    put_by_layout(out, layout, b"", b"{\"count\":")?;
     out.extend_from_slice(digits.format(count).as_bytes())?;
-    put_either(out, layout, b"", b",\"values\":{")
+    put_by_layout(out, layout, b"", b",\"values\":{")
 }
 
 /// An end state: how often it occurred, and the condition's names with their values.
 #[tactic(auto, unfolding(crate::specs::Lines::state_text))]
-pub(crate) fn put_state(
+pub(crate) fn put_end_state(
     out: &mut Vec<u8>,
     layout: Layout,
     test: &Test,
@@ -113,7 +113,7 @@ pub(crate) fn put_state(
     ensures { OnOk result (out.new.items ≡
         out.old.items ++ state_text layout (test_of test.now) (count, values.now)) }
 {
-    put_times(out, layout, count)?;
-    put_values(out, layout, test, values)?;
-    put_either(out, layout, b"\n", b"}}")
+    put_state_count(out, layout, count)?;
+    put_named_values(out, layout, test, values)?;
+    put_by_layout(out, layout, b"\n", b"}}")
 }

@@ -11,7 +11,7 @@ use programs::End;
 use std::alloc::{AllocError, Global};
 
 /// The values of the condition's names, if a run is all done.
-fn done_state(run: &RunEnd) -> Option<&[u64]>
+fn end_state_values(run: &RunEnd) -> Option<&[u64]>
     ensures { option_map (λ values. values.now) result ≡ done_state run.now.end run.now.state }
 {
     match (run.end, &run.state) {
@@ -21,7 +21,7 @@ fn done_state(run: &RunEnd) -> Option<&[u64]>
 }
 
 /// How many runs with this end state are counted.
-fn count_so_far(states: &IndexMap<&[u64], u64>, values: &[u64]) -> u64
+fn count_of_end_state(states: &IndexMap<&[u64], u64>, values: &[u64]) -> u64
     ensures { result ≡ count_of_state values.now (state_entries states.now.entries) }
 {
     match states.get(values) {
@@ -31,18 +31,21 @@ fn count_so_far(states: &IndexMap<&[u64], u64>, values: &[u64]) -> u64
 }
 
 /// One more run with this end state.
-fn count_one<'a>(states: &mut IndexMap<&'a [u64], u64>, values: &'a [u64]) -> Result<(), AllocError>
+fn count_end_state<'a>(
+    states: &mut IndexMap<&'a [u64], u64>,
+    values: &'a [u64],
+) -> Result<(), AllocError>
     requires { count_of_state values.now (state_entries states.old.entries) < 2 ^ 64 - 1 }
     ensures { OnOk result (state_entries states.new.entries ≡
         one_more values.now (state_entries states.old.entries)) }
 {
-    let count = count_so_far(states, values);
+    let count = count_of_end_state(states, values);
     states.insert(values, count + 1)?;
     Ok(())
 }
 
 /// The end states of the runs that are all done, in the order in which they first occurred, with how often each did.
-pub(crate) fn count_states(
+pub(crate) fn count_end_states(
     alloc: Global,
     runs: &[RunEnd],
 ) -> Result<IndexMap<&[u64], u64>, AllocError>
@@ -51,8 +54,8 @@ pub(crate) fn count_states(
 {
     let mut states = IndexMap::new(alloc);
     for run in runs {
-        if let Some(values) = done_state(run) {
-            count_one(&mut states, values)?;
+        if let Some(values) = end_state_values(run) {
+            count_end_state(&mut states, values)?;
         }
     }
     Ok(states)

@@ -15,7 +15,7 @@ pub(crate) struct Sums {
 }
 
 /// One more run.
-fn plus(sums: Sums, run: &RunEnd) -> Sums
+fn sums_with_run(sums: Sums, run: &RunEnd) -> Sums
     ensures { result ≡ sums_after sums run.now }
 {
     Sums {
@@ -34,7 +34,7 @@ fn plus(sums: Sums, run: &RunEnd) -> Sums
 }
 
 /// The sums over these runs.
-pub(crate) fn sums_of(runs: &[RunEnd]) -> Sums
+pub(crate) fn sum_over_runs(runs: &[RunEnd]) -> Sums
     ensures { result ≡ sums_of runs.now }
 {
     let mut sums = Sums {
@@ -48,7 +48,7 @@ pub(crate) fn sums_of(runs: &[RunEnd]) -> Sums
         stale: 0,
     };
     for run in runs {
-        sums = plus(sums, run);
+        sums = sums_with_run(sums, run);
     }
     sums
 }

@@ -6,21 +6,21 @@ ghost use Rattle.report_text.specs.States.{state_entries};
 ghost use Rattle.report_text.specs.Text.{condition_text, ends_text, is_yes, litmus_text, state_list};
 ghost use Rattle.report_text.specs.Text.{states_text, sums_text};
 
-use crate::ends::{Endings, endings_of};
-use crate::lines::{put_state, quantifier_text};
+use crate::ends::{Endings, count_run_endings};
+use crate::lines::{put_end_state, quantifier_text};
 use crate::run_end::RunEnd;
-use crate::states::count_states;
-use crate::sums::{Sums, sums_of};
+use crate::states::count_end_states;
+use crate::sums::{Sums, sum_over_runs};
 use indexmap::IndexMap;
 use litmus_reader::{Quantifier, Test};
 use report_lines::{
-    Layout, put_closing, put_counts, put_field, put_list_closing, put_list_opening, put_opening,
-    put_parting, put_word,
+    Layout, put_item_separator, put_labelled_number, put_labelled_word, put_list_closing,
+    put_list_opening, put_message_counts, put_report_closing, put_report_opening,
 };
 use std::alloc::{AllocError, Global};
 
 /// The test's name and threads, how many runs there are, and how many of them ended in which way.
-fn put_ends(
+fn put_run_endings(
     out: &mut Vec<u8>,
     layout: Layout,
     test: &Test,
@@ -30,18 +30,18 @@ fn put_ends(
     ensures { OnOk result (out.new.items ≡
         out.old.items ++ ends_text layout (test_of test.now) runs endings) }
 {
-    put_word(out, layout, b"test", test.name())?;
-    put_field(out, layout, b"threads", test.threads() as u128)?;
-    put_field(out, layout, b"runs", runs as u128)?;
-    put_field(out, layout, b"all-done", endings.all_done as u128)?;
-    put_field(out, layout, b"stalled", endings.stalled as u128)?;
-    put_field(out, layout, b"limit", endings.turns_used as u128)?;
-    put_field(out, layout, b"exhausted", endings.exhausted as u128)?;
-    put_field(out, layout, b"memory", endings.no_memory as u128)
+    put_labelled_word(out, layout, b"test", test.name())?;
+    put_labelled_number(out, layout, b"threads", test.threads() as u128)?;
+    put_labelled_number(out, layout, b"runs", runs as u128)?;
+    put_labelled_number(out, layout, b"all-done", endings.all_done as u128)?;
+    put_labelled_number(out, layout, b"stalled", endings.stalled as u128)?;
+    put_labelled_number(out, layout, b"limit", endings.turns_used as u128)?;
+    put_labelled_number(out, layout, b"exhausted", endings.exhausted as u128)?;
+    put_labelled_number(out, layout, b"memory", endings.no_memory as u128)
 }
 
 /// The end states, in order.
-fn put_state_list(
+fn put_end_state_list(
     out: &mut Vec<u8>,
     layout: Layout,
     test: &Test,
@@ -54,15 +54,15 @@ fn put_state_list(
     let _few = states.len();
     let mut index = 0;
     while let Some((values, count)) = states.get_index(index) {
-        put_parting(out, layout, index == 0)?;
-        put_state(out, layout, test, *count, *values)?;
+        put_item_separator(out, layout, index == 0)?;
+        put_end_state(out, layout, test, *count, *values)?;
         index += 1;
     }
     Ok(())
 }
 
 /// How many end states there are, and each of them.
-fn put_states(
+fn put_end_states(
     out: &mut Vec<u8>,
     layout: Layout,
     test: &Test,
@@ -72,12 +72,12 @@ fn put_states(
         out.old.items ++ states_text layout (test_of test.now) (state_entries states.now.entries)) }
 {
     put_list_opening(out, layout, b"states", states.len())?;
-    put_state_list(out, layout, test, states)?;
+    put_end_state_list(out, layout, test, states)?;
     put_list_closing(out, layout)
 }
 
 /// Whether this many of these runs meet the condition, if its expression holds in them.
-fn is_yes(quantifier: Quantifier, held: usize, all_done: usize) -> bool
+fn is_condition_met(quantifier: Quantifier, held: usize, all_done: usize) -> bool
     ensures { result ≡ is_yes quantifier held all_done }
 {
     match quantifier {
@@ -88,7 +88,7 @@ fn is_yes(quantifier: Quantifier, held: usize, all_done: usize) -> bool
 }
 
 /// The condition, in how many runs its expression holds, and the verdict.
-fn put_condition(
+fn put_condition_verdict(
     out: &mut Vec<u8>,
     layout: Layout,
     test: &Test,
@@ -97,21 +97,21 @@ fn put_condition(
     ensures { OnOk result (out.new.items ≡
         out.old.items ++ condition_text layout (test_of test.now) endings) }
 {
-    put_word(out, layout, b"condition", quantifier_text(test.condition()))?;
-    put_field(out, layout, b"held", endings.held as u128)?;
-    if is_yes(test.condition(), endings.held, endings.all_done) {
-        return put_word(out, layout, b"verdict", b"yes");
+    put_labelled_word(out, layout, b"condition", quantifier_text(test.condition()))?;
+    put_labelled_number(out, layout, b"held", endings.held as u128)?;
+    if is_condition_met(test.condition(), endings.held, endings.all_done) {
+        return put_labelled_word(out, layout, b"verdict", b"yes");
     }
-    put_word(out, layout, b"verdict", b"no")
+    put_labelled_word(out, layout, b"verdict", b"no")
 }
 
 /// The sums over all runs.
-fn put_sums(out: &mut Vec<u8>, layout: Layout, sums: Sums) -> Result<(), AllocError>
+fn put_sums_over_runs(out: &mut Vec<u8>, layout: Layout, sums: Sums) -> Result<(), AllocError>
     ensures { OnOk result (out.new.items ≡ out.old.items ++ sums_text layout sums) }
 {
-    put_field(out, layout, b"completed", sums.completed)?;
-    put_counts(out, layout, sums.counts)?;
-    put_field(out, layout, b"stale-hits", sums.stale)
+    put_labelled_number(out, layout, b"completed", sums.completed)?;
+    put_message_counts(out, layout, sums.counts)?;
+    put_labelled_number(out, layout, b"stale-hits", sums.stale)
 }
 
 /// The text that reports on the runs of a test, in lines that end with a line feed or as one JSON object: how the runs
@@ -127,14 +127,14 @@ pub fn litmus_text(
 ) -> Result<Vec<u8>, AllocError>
     ensures { IfOk result (λ text. text.items ≡ litmus_text layout (test_of test.now) runs.now) }
 {
-    let endings = endings_of(test, runs);
-    let states = count_states(alloc, runs)?;
+    let endings = count_run_endings(test, runs);
+    let states = count_end_states(alloc, runs)?;
     let mut out = Vec::new(alloc);
-    put_opening(&mut out, layout, b"litmus")?;
-    put_ends(&mut out, layout, test, runs.len(), endings)?;
-    put_states(&mut out, layout, test, &states)?;
-    put_condition(&mut out, layout, test, endings)?;
-    put_sums(&mut out, layout, sums_of(runs))?;
-    put_closing(&mut out, layout)?;
+    put_report_opening(&mut out, layout, b"litmus")?;
+    put_run_endings(&mut out, layout, test, runs.len(), endings)?;
+    put_end_states(&mut out, layout, test, &states)?;
+    put_condition_verdict(&mut out, layout, test, endings)?;
+    put_sums_over_runs(&mut out, layout, sum_over_runs(runs))?;
+    put_report_closing(&mut out, layout)?;
     Ok(out)
 }

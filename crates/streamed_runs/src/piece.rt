@@ -15,7 +15,7 @@ use trace_reader::StepQueue;
 const LAST_TURNS: usize = 4_096;
 
 // How a run that is over ends, where the text has more steps or not.
-pub(crate) fn end_with(end: End, has_more: bool) -> End
+pub(crate) fn end_of_streamed_run(end: End, has_more: bool) -> End
     ensures { result ≡ end_with end has_more }
 {
     match end {
@@ -25,18 +25,18 @@ pub(crate) fn end_with(end: End, has_more: bool) -> End
 }
 
 // How many turns are left after a piece of so many, of those that were left before it: none, if the run is over.
-pub(crate) fn turns_left(left: u32, turns: u32, end: End, has_more: bool) -> u32
+pub(crate) fn turns_left_after_piece(left: u32, turns: u32, end: End, has_more: bool) -> u32
     requires { turns ≤ left }
     ensures { result ≡ turns_left left turns (end_with end has_more) }
 {
-    match end_with(end, has_more) {
+    match end_of_streamed_run(end, has_more) {
         End::TurnsUsed => left - turns,
         End::AllDone | End::Stalled | End::Exhausted | End::NoMemory => 0,
     }
 }
 
 // Whether all is done: no step is left, and none is to come.
-pub(crate) fn is_done(has_more: bool, end: End, are_empty: bool) -> bool
+pub(crate) fn is_stream_done(has_more: bool, end: End, are_empty: bool) -> bool
     ensures yes { result ≡ true → (has_more ≡ false) × (end ≡ End.AllDone) × (are_empty ≡ true) }
     ensures not { result ≡ false → end ≡ End.AllDone → has_more ≡ false → are_empty ≡ false }
 {
@@ -45,7 +45,7 @@ pub(crate) fn is_done(has_more: bool, end: End, are_empty: bool) -> bool
 
 // How many turns a piece makes, where so many are left and each core has so many steps: no more than there are steps
 // for, if more may come behind them.
-pub(crate) fn turns_ahead(left: u32, steps: usize, has_more: bool) -> u32
+pub(crate) fn turns_for_piece(left: u32, steps: usize, has_more: bool) -> u32
     ensures most { result ≤ left }
     ensures ahead { has_more ≡ true → result ≤ steps }
     ensures some { 0 < left → (has_more ≡ true → 0 < steps) → 0 < result }

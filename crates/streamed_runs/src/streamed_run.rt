@@ -12,7 +12,9 @@ ghost use Rattle.trace_reader.specs.Streams.{coming, steps_told, where_known, On
 ghost use Rattle.streamed_runs.specs.StreamStates.{HasEnded, IsAllRead, IsGoing, IsOver, IsSameRun};
 ghost use Rattle.streamed_runs.specs.StreamStates.{issued_below, opens_below, values_in};
 
-use crate::piece::{end_with, is_done, make_piece, turns_ahead, turns_left};
+use crate::piece::{
+    end_of_streamed_run, is_stream_done, make_piece, turns_for_piece, turns_left_after_piece,
+};
 use crate::summary::Summary;
 use interleaving_core::{Config, System, ToldHistory};
 use machine_table::Counts;
@@ -90,7 +92,7 @@ impl Model for StreamedRun {
 }
 
 // How many cores have an open operation.
-fn open_operations(system: &System<ToldHistory>) -> u32
+fn count_open_operations(system: &System<ToldHistory>) -> u32
     ensures { result ≡ opens_below system.now system.now.config.cores }
 {
     let mut count = 0;
@@ -103,7 +105,7 @@ fn open_operations(system: &System<ToldHistory>) -> u32
 }
 
 // Reads ahead of a piece, unless the text is at its end: whether the text has more. If so, each core has a step.
-fn read_on<S: Source>(
+fn read_ahead_of_piece<S: Source>(
     ahead: &mut ReadAhead,
     source: &mut S,
     at_end: bool,
@@ -132,7 +134,11 @@ fn read_on<S: Source>(
 
 // A machine with this set-up over zeros. For a run by a seed it keeps its lines in rising order from the start, since
 // each piece of such a run would put them in order anew (`run_on`).
-fn opened(alloc: Global, config: Config, policy: Policy) -> Result<System<ToldHistory>, AllocError>
+fn open_stream_machine(
+    alloc: Global,
+    config: Config,
+    policy: Policy,
+) -> Result<System<ToldHistory>, AllocError>
     requires { is_good config ≡ true }
     ensures { IfOk result (λ system. system ≡ at_start config empty) }
 {
@@ -165,7 +171,7 @@ impl StreamedRun {
             coming run.ahead.stream (Some bytes) ≡ Some (steps_told bytes)) }
     {
         nothing_is_done_at_first();
-        let system = opened(alloc, config, policy)?;
+        let system = open_stream_machine(alloc, config, policy)?;
         let ahead = ReadAhead::new(alloc, config.cores, names)?;
         Ok(StreamedRun {
             alloc,
@@ -182,12 +188,12 @@ impl StreamedRun {
     }
 
     /// Reads ahead, and makes as many turns as there are steps for, at most those that are left. The result is whether
-    /// the run goes on; if not, nothing but the rest of the text is left (`finish`), and another call does nothing. The
-    /// source is to be the one of all earlier calls.
+    /// the run goes on; if not, nothing but the rest of the text is left (`read_rest_of_text`), and another call does
+    /// nothing. The source is to be the one of all earlier calls.
     ///
     /// A fault of the text is an error as soon as it is read, and so is a step of a core that the machine hasn't. The
     /// run can't go on after an error.
-    pub fn go_on<S: Source>(&mut self, source: &mut S) -> Result<bool, AheadError>
+    pub fn run_next_piece<S: Source>(&mut self, source: &mut S) -> Result<bool, AheadError>
         ensures went { OnOk result ((taken : List (ℕ × (ℕ × Step))) → IsGoing taken self.old →
             (more : List (ℕ × (ℕ × Step)))
             × Yields (coming self.old.ahead.stream (S.remaining source.old))
@@ -218,13 +224,13 @@ impl StreamedRun {
         if self.left == 0 {
             return Ok(false);
         }
-        let has_more = read_on(&mut self.ahead, source, self.at_end)?;
+        let has_more = read_ahead_of_piece(&mut self.ahead, source, self.at_end)?;
         self.at_end = !has_more;
-        if is_done(has_more, self.end, self.ahead.are_empty()) {
+        if is_stream_done(has_more, self.end, self.ahead.are_empty()) {
             self.left = 0;
             return Ok(false);
         }
-        let turns = turns_ahead(self.left, self.ahead.shortest(), has_more);
+        let turns = turns_for_piece(self.left, self.ahead.shortest(), has_more);
         let records = mem::replace(&mut self.done, Vec::new(self.alloc));
         let queues = self.ahead.queues();
         let (end, done) = make_piece(
@@ -237,15 +243,15 @@ impl StreamedRun {
         );
         self.done = done;
         self.end = end;
-        self.left = turns_left(self.left, turns, end, !self.at_end);
-        let Ok(()) = self.summary.add(&self.done) else {
+        self.left = turns_left_after_piece(self.left, turns, end, !self.at_end);
+        let Ok(()) = self.summary.count_records(&self.done) else {
             return Err(AheadError::NoMemory);
         };
         Ok(self.left > 0)
     }
 
     /// Reads the rest of the text, once the run is over. The source is to be the one of all earlier calls.
-    pub fn finish<S: Source>(&mut self, source: &mut S) -> Result<(), AheadError>
+    pub fn read_rest_of_text<S: Source>(&mut self, source: &mut S) -> Result<(), AheadError>
         ensures ended { OnOk result ((taken : List (ℕ × (ℕ × Step))) → IsGoing taken self.old →
             IsOver self.old → (more : List (ℕ × (ℕ × Step)))
             × Yields (coming self.old.ahead.stream (S.remaining source.old))
@@ -270,11 +276,11 @@ impl StreamedRun {
         }
         let has_more = self.ahead.skip(source)?;
         self.at_end = true;
-        self.end = end_with(self.end, has_more);
+        self.end = end_of_streamed_run(self.end, has_more);
         Ok(())
     }
 
-    /// The records of the operations that the last call of `go_on` completed, in order.
+    /// The records of the operations that the last call of `run_next_piece` completed, in order.
     pub fn done(&self) -> &[Record]
         ensures { result.now ≡ self.now.done }
     {
@@ -289,7 +295,7 @@ impl StreamedRun {
     }
 
     /// The greatest core of a step that was read, plus 1; 0 before the first one.
-    pub fn met(&self) -> u32
+    pub fn cores_met(&self) -> u32
         ensures { result ≡ self.now.ahead.met }
     {
         self.ahead.met()
@@ -303,7 +309,7 @@ impl StreamedRun {
     }
 
     /// How many of the records are of loads for which a write of the same word has a smaller number and a greater time.
-    pub fn stale(&self) -> u64
+    pub fn stale_hits(&self) -> u64
         ensures { result ≡ self.now.stale }
     {
         self.summary.stale as u64
@@ -321,7 +327,7 @@ impl StreamedRun {
         ensures { result ≡ issued_below self.now.machine self.now.machine.config.cores }
     {
         self.system.records_are_legal();
-        self.system.completed() as u128 + u128::from(open_operations(&self.system))
+        self.system.completed() as u128 + u128::from(count_open_operations(&self.system))
     }
 
     /// The words that the steps name that were read, by rising address, with their values, where they are; none if

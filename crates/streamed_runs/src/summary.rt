@@ -18,21 +18,21 @@ pub struct Summary {
 }
 
 // One more, if this is so.
-fn more_if(is: bool, n: usize) -> usize
+fn add_one_if(is: bool, n: usize) -> usize
     ensures { result ≡ more_if is n }
 {
     if is { n.saturating_add(1) } else { n }
 }
 
 // With an operation more.
-fn with_kind(kinds: Kinds, op: Op) -> Kinds
+fn kinds_with_operation(kinds: Kinds, op: Op) -> Kinds
     ensures { result ≡ with_kind kinds op }
 {
     Kinds {
-        completed: more_if(true, kinds.completed),
-        loads: more_if(matches!(op, Op::Load(_)), kinds.loads),
-        stores: more_if(matches!(op, Op::Store(_, _)), kinds.stores),
-        swaps: more_if(matches!(op, Op::Swap(_, _)), kinds.swaps),
+        completed: add_one_if(true, kinds.completed),
+        loads: add_one_if(matches!(op, Op::Load(_)), kinds.loads),
+        stores: add_one_if(matches!(op, Op::Store(_, _)), kinds.stores),
+        swaps: add_one_if(matches!(op, Op::Swap(_, _)), kinds.swaps),
     }
 }
 
@@ -73,21 +73,21 @@ impl Summary {
     }
 
     // One record more.
-    fn count(&mut self, visited: &Record) -> Result<(), AllocError>
+    fn count_record(&mut self, visited: &Record) -> Result<(), AllocError>
         ensures { OnOk result (self.new ≡ counted self.old visited.now) }
     {
         let is_stale = check_stale_hit(&mut self.latest, visited)?;
-        self.kinds = with_kind(self.kinds, visited.op);
-        self.stale = more_if(is_stale, self.stale);
+        self.kinds = kinds_with_operation(self.kinds, visited.op);
+        self.stale = add_one_if(is_stale, self.stale);
         Ok(())
     }
 
     /// Of these records, too, which come behind. If an allocation fails, it is of the first ones of them.
-    pub(crate) fn add(&mut self, records: &[Record]) -> Result<(), AllocError>
+    pub(crate) fn count_records(&mut self, records: &[Record]) -> Result<(), AllocError>
         ensures { OnOk result (self.new ≡ all_counted self.old records.now) }
     {
         for visited in records {
-            self.count(visited)?;
+            self.count_record(visited)?;
         }
         Ok(())
     }

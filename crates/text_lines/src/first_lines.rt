@@ -12,7 +12,7 @@ const LANES: usize = 16;
 
 /// Which of the bytes from `at` on, as many as are looked at together, are line feeds: a bit for each.
 #[inline(always)]
-fn line_feeds(text: &[u8], at: usize) -> u64
+fn line_feed_mask(text: &[u8], at: usize) -> u64
     requires { at + 16 ≤ length text.now }
     ensures { result ≡ mask_l (map (λ b. b == 10) (chunk at 16 text.now)) }
 {
@@ -20,7 +20,7 @@ fn line_feeds(text: &[u8], at: usize) -> u64
     bytes.simd_eq(u8x16::splat(b'\n')).to_bitmask()
 }
 
-fn length_of_few(bytes: &[u8]) -> usize
+fn line_length_by_bytes(bytes: &[u8]) -> usize
     ensures count { result ≡ prefix_len is_within_line bytes.now }
     ensures within { result ≤ length bytes.now }
 {
@@ -34,13 +34,13 @@ pub fn line_length(text: &[u8]) -> usize
 {
     let mut at = 0;
     while at + LANES <= text.len() {
-        let mask = line_feeds(text, at);
+        let mask = line_feed_mask(text, at);
         if mask != 0 {
             return at + mask.trailing_zeros() as usize;
         }
         at += LANES;
     }
-    at + length_of_few(&text[at..])
+    at + line_length_by_bytes(&text[at..])
 }
 
 /// The first line of a text without its line feed, and what follows it.

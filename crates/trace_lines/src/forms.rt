@@ -26,7 +26,7 @@ fn form_named(line: &[u8]) -> Result<Option<Form>, Kind>
 }
 
 #[tactic(auto, unfolding(crate::specs::Reading::form_line_at))]
-fn read_form(line: &[u8]) -> Result<Option<Form>, Kind>
+fn read_trace_form(line: &[u8]) -> Result<Option<Form>, Kind>
     ensures { result ≡ form_line_at (fields_of line.now) }
 {
     match next_field(line) {
@@ -48,5 +48,5 @@ pub fn form_line(line: &[u8]) -> Result<Option<Form>, Kind>
         result ≡ Ok (Some form) }
     ensures fault { IfErr result (λ kind. FormCause kind (fields_of line.now)) }
 {
-    read_form(line)
+    read_trace_form(line)
 }

@@ -12,32 +12,32 @@ fn is_blank(b: u8) -> bool
 }
 
 /// A byte of a field: no blank, and not where a comment begins.
-pub(crate) fn is_within(b: u8) -> bool
+pub(crate) fn is_field_byte(b: u8) -> bool
     ensures { result ≡ is_within b }
 {
     !matches!(b, b' ' | b'\t' | b'#')
 }
 
-fn blank_count(bytes: &[u8]) -> usize
+fn count_leading_blanks(bytes: &[u8]) -> usize
     ensures count { result ≡ prefix_len is_blank bytes.now }
     ensures within { result ≤ length bytes.now }
 {
     bytes.iter().take_while(|b| is_blank(**b)).count()
 }
 
-fn field_count(bytes: &[u8]) -> usize
+fn count_field_bytes(bytes: &[u8]) -> usize
     ensures count { result ≡ prefix_len is_within bytes.now }
     ensures within { result ≤ length bytes.now }
 {
-    bytes.iter().take_while(|b| is_within(**b)).count()
+    bytes.iter().take_while(|b| is_field_byte(**b)).count()
 }
 
 /// A line from its first byte that is no blank on.
 #[inline(always)]
-pub(crate) fn behind_blanks(line: &[u8]) -> &[u8]
+pub(crate) fn skip_leading_blanks(line: &[u8]) -> &[u8]
     ensures { fields_of line.now ≡ front_field result.now }
 {
-    let (_, bytes) = line.split_at(blank_count(line));
+    let (_, bytes) = line.split_at(count_leading_blanks(line));
     bytes
 }
 
@@ -45,8 +45,8 @@ pub(crate) fn behind_blanks(line: &[u8]) -> &[u8]
 pub(crate) fn has_field(line: &[u8]) -> bool
     ensures { result ≡ has_fields (fields_of line.now) }
 {
-    match behind_blanks(line) {
-        [first, ..] => is_within(*first),
+    match skip_leading_blanks(line) {
+        [first, ..] => is_field_byte(*first),
         [] => false,
     }
 }
@@ -57,8 +57,8 @@ pub(crate) fn next_field(line: &[u8]) -> Option<(&[u8], &[u8])>
     ensures { MatchOption result (fields_of line.now ≡ [])
         (λ r. fields_of line.now ≡ r.0.now ∷ fields_of r.1.now) }
 {
-    let bytes = behind_blanks(line);
-    let count = field_count(bytes);
+    let bytes = skip_leading_blanks(line);
+    let count = count_field_bytes(bytes);
     if count == 0 {
         return None;
     }

@@ -8,16 +8,16 @@ ghost use Rattle.trace_lines.specs.Reading.{opening_at, opening_line_at};
 
 use crate::errors::Kind;
 use crate::lines::{has_field, next_field};
-use crate::reads::{address_field, number_field};
+use crate::reads::{read_address_field, read_number_field};
 use physiological_order::WordAddr;
 
 /// A word and its value, where no field follows.
 #[tactic(auto, unfolding(crate::specs::Reading::opening_at, crate::specs::Reading::ended))]
-fn opening_fields(line: &[u8]) -> Result<(WordAddr, u64), Kind>
+fn read_opening_fields(line: &[u8]) -> Result<(WordAddr, u64), Kind>
     ensures { result ≡ opening_at (fields_of line.now) }
 {
-    let (word, rest) = address_field(line)?;
-    let (value, rest) = number_field(rest)?;
+    let (word, rest) = read_address_field(line)?;
+    let (value, rest) = read_number_field(rest)?;
     match next_field(rest) {
         None => Ok((WordAddr::at(word), value)),
         Some(_) => Err(Kind::ExtraWords),
@@ -31,7 +31,7 @@ fn read_opening(line: &[u8]) -> Result<Option<(WordAddr, u64)>, Kind>
     if !has_field(line) {
         return Ok(None);
     }
-    let told = opening_fields(line)?;
+    let told = read_opening_fields(line)?;
     Ok(Some(told))
 }
 

@@ -9,17 +9,25 @@ ghost use Rattle.trace_lines.specs.Reading.{timed_at, record_rest_at, record_fie
 
 use crate::errors::Kind;
 use crate::lines::{has_field, next_field};
-use crate::reads::{address_field, core_field, number_field, operation_field, place_field};
+use crate::reads::{
+    read_access_field, read_address_field, read_core_field, read_number_field, read_place_field,
+};
 use crate::steps::Access;
 use physiological_order::{Op, Record, WordAddr};
 
 /// A record whose time and completion number follow, and no more.
 #[tactic(auto, unfolding(crate::specs::Reading::timed_at, crate::specs::Reading::ended))]
-fn timed(core: u32, place: u32, op: Op, received: Option<u64>, line: &[u8]) -> Result<Record, Kind>
+fn read_record_end(
+    core: u32,
+    place: u32,
+    op: Op,
+    received: Option<u64>,
+    line: &[u8],
+) -> Result<Record, Kind>
     ensures { result ≡ timed_at core place op received (fields_of line.now) }
 {
-    let (ts, rest) = number_field(line)?;
-    let (number, rest) = number_field(rest)?;
+    let (ts, rest) = read_number_field(line)?;
+    let (number, rest) = read_number_field(rest)?;
     match next_field(rest) {
         None => Ok(Record {
             core,
@@ -34,7 +42,7 @@ fn timed(core: u32, place: u32, op: Op, received: Option<u64>, line: &[u8]) -> R
 }
 
 /// A record of an access to a word; the value that it writes and the one that it received follow.
-fn completed(
+fn read_record_rest(
     core: u32,
     place: u32,
     access: Access,
@@ -45,30 +53,30 @@ fn completed(
 {
     match access {
         Access::Read => {
-            let (received, rest) = number_field(line)?;
-            timed(core, place, Op::Load(word), Some(received), rest)
+            let (received, rest) = read_number_field(line)?;
+            read_record_end(core, place, Op::Load(word), Some(received), rest)
         }
         Access::Write => {
-            let (value, rest) = number_field(line)?;
-            timed(core, place, Op::Store(word, value), None, rest)
+            let (value, rest) = read_number_field(line)?;
+            read_record_end(core, place, Op::Store(word, value), None, rest)
         }
         Access::Swap => {
-            let (value, rest) = number_field(line)?;
-            let (received, rest) = number_field(rest)?;
-            timed(core, place, Op::Swap(word, value), Some(received), rest)
+            let (value, rest) = read_number_field(line)?;
+            let (received, rest) = read_number_field(rest)?;
+            read_record_end(core, place, Op::Swap(word, value), Some(received), rest)
         }
     }
 }
 
 #[tactic(auto, unfolding(crate::specs::Reading::record_fields_at))]
-fn record_fields(line: &[u8]) -> Result<Record, Kind>
+fn read_record_fields(line: &[u8]) -> Result<Record, Kind>
     ensures { result ≡ record_fields_at (fields_of line.now) }
 {
-    let (core, rest) = core_field(line, 64)?;
-    let (place, rest) = place_field(rest)?;
-    let (access, rest) = operation_field(rest)?;
-    let (word, rest) = address_field(rest)?;
-    completed(core, place, access, WordAddr::at(word), rest)
+    let (core, rest) = read_core_field(line, 64)?;
+    let (place, rest) = read_place_field(rest)?;
+    let (access, rest) = read_access_field(rest)?;
+    let (word, rest) = read_address_field(rest)?;
+    read_record_rest(core, place, access, WordAddr::at(word), rest)
 }
 
 #[tactic(auto, unfolding(crate::specs::Reading::record_line_at))]
@@ -78,7 +86,7 @@ fn read_record(line: &[u8]) -> Result<Option<Record>, Kind>
     if !has_field(line) {
         return Ok(None);
     }
-    let told = record_fields(line)?;
+    let told = read_record_fields(line)?;
     Ok(Some(told))
 }
 

@@ -11,13 +11,13 @@ ghost use Rattle.trace_lines.specs.Spelling.{most_cores_named};
 
 use crate::errors::Kind;
 use crate::lines::{has_field, next_field};
-use crate::reads::{address_field, core_field, number_field, operation_field};
+use crate::reads::{read_access_field, read_address_field, read_core_field, read_number_field};
 use crate::steps::{Access, Form};
 use physiological_order::{Op, WordAddr};
 use programs::Step;
 
 /// How many cores a trace may name.
-fn core_count(form: Form) -> u8
+fn most_cores_of_form(form: Form) -> u8
     ensures { result ≡ most_cores_named form }
 {
     match form {
@@ -28,7 +28,7 @@ fn core_count(form: Form) -> u8
 
 /// An operation that no field follows.
 #[tactic(auto, unfolding(crate::specs::Reading::ended))]
-fn ended_op(op: Op, line: &[u8]) -> Result<Op, Kind>
+fn op_at_line_end(op: Op, line: &[u8]) -> Result<Op, Kind>
     ensures { result ≡ ended op (fields_of line.now) }
 {
     match next_field(line) {
@@ -38,33 +38,33 @@ fn ended_op(op: Op, line: &[u8]) -> Result<Op, Kind>
 }
 
 /// The operation on a word, with its value if it writes one, where no field follows.
-fn operand_fields(access: Access, word: WordAddr, line: &[u8]) -> Result<Op, Kind>
+fn read_operand_fields(access: Access, word: WordAddr, line: &[u8]) -> Result<Op, Kind>
     ensures { result ≡ operand_at access word (fields_of line.now) }
 {
     match access {
-        Access::Read => ended_op(Op::Load(word), line),
+        Access::Read => op_at_line_end(Op::Load(word), line),
         Access::Write => {
-            let (value, rest) = number_field(line)?;
-            ended_op(Op::Store(word, value), rest)
+            let (value, rest) = read_number_field(line)?;
+            op_at_line_end(Op::Store(word, value), rest)
         }
         Access::Swap => {
-            let (value, rest) = number_field(line)?;
-            ended_op(Op::Swap(word, value), rest)
+            let (value, rest) = read_number_field(line)?;
+            op_at_line_end(Op::Swap(word, value), rest)
         }
     }
 }
 
 #[tactic(auto, unfolding(crate::specs::Reading::op_at))]
-fn op_fields(line: &[u8]) -> Result<Op, Kind>
+fn read_op_fields(line: &[u8]) -> Result<Op, Kind>
     ensures { result ≡ op_at (fields_of line.now) }
 {
-    let (access, rest) = operation_field(line)?;
-    let (word, rest) = address_field(rest)?;
-    operand_fields(access, WordAddr::at(word), rest)
+    let (access, rest) = read_access_field(line)?;
+    let (word, rest) = read_address_field(rest)?;
+    read_operand_fields(access, WordAddr::at(word), rest)
 }
 
 /// What follows `A`, which form 2 has.
-fn behind_advance(form: Form, line: &[u8]) -> Option<&[u8]>
+fn skip_advance_field(form: Form, line: &[u8]) -> Option<&[u8]>
     ensures { option_map (λ rest. fields_of rest.now) result
         ≡ behind_advance form (fields_of line.now) }
 {
@@ -75,27 +75,27 @@ fn behind_advance(form: Form, line: &[u8]) -> Option<&[u8]>
 }
 
 #[tactic(auto, unfolding(crate::specs::Reading::step_at, crate::specs::Reading::ended))]
-fn step_fields(form: Form, line: &[u8]) -> Result<Step, Kind>
+fn read_step_fields(form: Form, line: &[u8]) -> Result<Step, Kind>
     ensures { result ≡ step_at form (fields_of line.now) }
 {
-    match behind_advance(form, line) {
+    match skip_advance_field(form, line) {
         Some(rest) => match next_field(rest) {
             None => Ok(Step::Advance),
             Some(_) => Err(Kind::ExtraWords),
         },
         None => {
-            let op = op_fields(line)?;
+            let op = read_op_fields(line)?;
             Ok(Step::Op(op))
         }
     }
 }
 
 #[tactic(auto, unfolding(crate::specs::Reading::trace_at))]
-fn trace_fields(form: Form, line: &[u8]) -> Result<(u32, Step), Kind>
+fn read_trace_fields(form: Form, line: &[u8]) -> Result<(u32, Step), Kind>
     ensures { result ≡ trace_at form (fields_of line.now) }
 {
-    let (core, rest) = core_field(line, core_count(form))?;
-    let step = step_fields(form, rest)?;
+    let (core, rest) = read_core_field(line, most_cores_of_form(form))?;
+    let step = read_step_fields(form, rest)?;
     Ok((core, step))
 }
 
@@ -106,7 +106,7 @@ fn read_step(form: Form, line: &[u8]) -> Result<Option<(u32, Step)>, Kind>
     if !has_field(line) {
         return Ok(None);
     }
-    let told = trace_fields(form, line)?;
+    let told = read_trace_fields(form, line)?;
     Ok(Some(told))
 }
 

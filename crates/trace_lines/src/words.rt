@@ -7,7 +7,7 @@ ghost use Rattle.trace_lines.specs.Reading.{address_in, access_in};
 ghost use Rattle.trace_lines.specs.Spelling.{is_hex_digit, hex_digit};
 ghost use Rattle.trace_lines.specs.Views.{view_fields_read};
 
-use crate::lines::is_within;
+use crate::lines::is_field_byte;
 use crate::steps::Access;
 use physiological_order::WordAddr;
 
@@ -44,7 +44,7 @@ fn with_digit(is_hexadecimal: bool, value: u64, b: u8) -> Option<u64>
 /// The number of the field in front, and the field's length; nothing if a byte of it is no digit, or the number doesn't
 /// fit 64 bits.
 #[inline(always)]
-fn digits(is_hexadecimal: bool, bytes: &[u8]) -> Option<(u64, usize)>
+fn read_digits(is_hexadecimal: bool, bytes: &[u8]) -> Option<(u64, usize)>
     ensures { result ≡ number_of (is_digit_of is_hexadecimal) (put_digit is_hexadecimal) 0 0 bytes.now }
 {
     let mut value = 0u64;
@@ -53,7 +53,7 @@ fn digits(is_hexadecimal: bool, bytes: &[u8]) -> Option<(u64, usize)>
         value = with_digit(is_hexadecimal, value, bytes[count])?;
         count += 1;
     }
-    if count < bytes.len() && is_within(bytes[count]) {
+    if count < bytes.len() && is_field_byte(bytes[count]) {
         return None;
     }
     Some((value, count))
@@ -61,7 +61,7 @@ fn digits(is_hexadecimal: bool, bytes: &[u8]) -> Option<(u64, usize)>
 
 /// The number of the field in front, of 1 to `most` digits, if it is below a bound, and what follows it.
 #[inline(always)]
-pub(crate) fn number(
+pub(crate) fn read_number(
     is_hexadecimal: bool,
     bytes: &[u8],
     most: usize,
@@ -72,7 +72,7 @@ pub(crate) fn number(
         ≡ front_says (number_in is_hexadecimal most bound) bytes.now }
     ensures small { IfSome result (λ read. read.0 < bound) }
 {
-    let (value, count) = digits(is_hexadecimal, bytes)?;
+    let (value, count) = read_digits(is_hexadecimal, bytes)?;
     if count == 0 || count > most || u128::from(value) >= bound {
         return None;
     }
@@ -83,7 +83,7 @@ pub(crate) fn number(
 /// The number of the word at the byte address in front, written as `0x` and 1 to 16 hexadecimal digits, if it is a
 /// multiple of 8, and what follows it.
 #[inline(always)]
-pub(crate) fn address(bytes: &[u8]) -> Option<(u64, &[u8])>
+pub(crate) fn read_address(bytes: &[u8]) -> Option<(u64, &[u8])>
     ensures number { option_map view_fields_read result ≡ front_says address_in bytes.now }
     ensures small { IfSome result (λ read. read.0 < 2 ^ 61) }
 {
@@ -91,17 +91,17 @@ pub(crate) fn address(bytes: &[u8]) -> Option<(u64, &[u8])>
         return None;
     }
     let (_, digits) = bytes.split_at(2);
-    let (byte, rest) = number(true, digits, 16, VALUE_BOUND)?;
+    let (byte, rest) = read_number(true, digits, 16, VALUE_BOUND)?;
     let word = WordAddr::new(byte)?;
     Some((word.word(), rest))
 }
 
 /// The field in front, if it is one byte, and what follows it.
 #[inline(always)]
-pub(crate) fn letter(bytes: &[u8]) -> Option<(u8, &[u8])>
+pub(crate) fn read_letter(bytes: &[u8]) -> Option<(u8, &[u8])>
     ensures { option_map view_fields_read result ≡ front_says letter_in bytes.now }
 {
-    if bytes.is_empty() || !is_within(bytes[0]) || bytes.len() > 1 && is_within(bytes[1]) {
+    if bytes.is_empty() || !is_field_byte(bytes[0]) || bytes.len() > 1 && is_field_byte(bytes[1]) {
         return None;
     }
     let (_, rest) = bytes.split_at(1);
@@ -109,7 +109,7 @@ pub(crate) fn letter(bytes: &[u8]) -> Option<(u8, &[u8])>
 }
 
 /// The access that `R`, `W` or `S` stands for.
-pub(crate) fn access(letter: u8) -> Option<Access>
+pub(crate) fn access_of_letter(letter: u8) -> Option<Access>
     ensures { result ≡ access_in (letter ∷ []) }
 {
     match letter {

@@ -29,7 +29,7 @@ struct Opened {
 
 impl Opened {
     // Opens a word, here and in the memory.
-    fn open(&mut self, addr: WordAddr, value: u64) -> Result<(), AllocError>
+    fn open_word(&mut self, addr: WordAddr, value: u64) -> Result<(), AllocError>
         requires { self.old.words ≡ self.old.memory }
         ensures opened { OnOk result (self.new.memory ≡ insert self.old.memory addr value) }
         ensures same { OnOk result (self.new.words ≡ self.new.memory) }
@@ -39,7 +39,12 @@ impl Opened {
     }
 
     // Opens the word of the line with this number, unless an earlier line opened it.
-    fn add(&mut self, number: usize, addr: WordAddr, value: u64) -> Result<(), TraceError>
+    fn open_word_of_line(
+        &mut self,
+        number: usize,
+        addr: WordAddr,
+        value: u64,
+    ) -> Result<(), TraceError>
         requires { self.old.words ≡ self.old.memory }
         ensures added { OnOk result ((opened_once self.old.memory (addr, value)
             (get self.old.memory addr) ≡ Ok (self.new.memory, Some (addr, value)))
@@ -53,7 +58,7 @@ impl Opened {
                 line: number,
                 kind: Kind::DoubleWord,
             }),
-            None => match self.open(addr, value) {
+            None => match self.open_word(addr, value) {
                 Ok(()) => Ok(()),
                 Err(AllocError) => Err(TraceError {
                     line: 0,
@@ -86,12 +91,12 @@ impl FromLines for Opened {
         match opening_line(line) {
             Err(kind) => Err(TraceError { line: number, kind }),
             Ok(None) => Ok(()),
-            Ok(Some((addr, value))) => self.add(number, addr, value),
+            Ok(Some((addr, value))) => self.open_word_of_line(number, addr, value),
         }
     }
 }
 
-fn read_whole<S: Source>(alloc: Global, source: &mut S) -> Result<Memory, TraceError>
+fn read_opening_text<S: Source>(alloc: Global, source: &mut S) -> Result<Memory, TraceError>
     ensures told { IfOk result (λ memory. IfSome (S.remaining source.old)
         (λ bytes. (told : List (ℕ × ℕ)) × (opening_read bytes ≡ Ok told) × AreOpened told memory)) }
     ensures end { OnOk result (IfSome (S.remaining source.old)
@@ -134,5 +139,5 @@ pub fn read_opening<S: Source>(alloc: Global, source: &mut S) -> Result<Memory, 
     ensures end { OnOk result (IfSome (S.remaining source.old)
         (λ known. AtEnd (S.remaining source.new))) }
 {
-    read_whole(alloc, source)
+    read_opening_text(alloc, source)
 }

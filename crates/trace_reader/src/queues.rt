@@ -11,7 +11,11 @@ use trace_lines::Step;
 
 /// Adds the word that a step names, if words are asked for. If an allocation fails, nothing changes.
 #[tactic(auto, unfolding(crate::specs::Steps::ops_of))]
-pub(crate) fn add_word(step: &Step, names: bool, words: &mut Memory) -> Result<(), AllocError>
+pub(crate) fn add_word_of_step(
+    step: &Step,
+    names: bool,
+    words: &mut Memory,
+) -> Result<(), AllocError>
     ensures named { OnOk result ((core : ℕ) →
         words.new ≡ named names words.old ((core, step.now) ∷ [])) }
     ensures refused { OnErr result (words.new ≡ words.old) }
@@ -86,8 +90,8 @@ impl StepQueue {
             return Err(AllocError);
         };
         self.blocks.make_room()?;
-        add_word(&step, names, words)?;
-        self.blocks.put(step);
+        add_word_of_step(&step, names, words)?;
+        self.blocks.push_step(step);
         self.left = left;
         Ok(())
     }
@@ -99,12 +103,12 @@ impl Program for StepQueue {
     ghost acts = { record { next = first_step; done = behind_first } };
 
     fn next(&self) -> Option<Step> {
-        self.blocks.first()
+        self.blocks.first_step()
     }
 
     fn done(&mut self, _received: Option<u64>) {
         if self.left > 0 {
-            self.blocks.take_first();
+            self.blocks.take_first_step();
             self.left -= 1;
         }
     }

@@ -10,7 +10,7 @@ ghost use Rattle.trace_reader.specs.Filling.{AreNeeded, AreTooFew, HasTaken, Has
 ghost use Rattle.trace_reader.specs.Steps.{lane};
 ghost use Rattle.trace_reader.specs.Streams.{coming, steps_told, where_known, OnlyFault, Yields};
 
-use crate::queues::{StepQueue, add_word};
+use crate::queues::{StepQueue, add_word_of_step};
 use crate::step_streams::StepStream;
 use byte_streams::Source;
 use physiological_order::{Memory, Op};
@@ -96,7 +96,7 @@ impl ReadAhead {
     }
 
     // How many steps a core's queue has; 0 if there is no such queue.
-    fn left(&self, core: usize) -> usize
+    fn steps_left(&self, core: usize) -> usize
         ensures { result ≡ length (lane self.now.queues core) }
     {
         match self.queues.get(core) {
@@ -117,14 +117,14 @@ impl ReadAhead {
         if keeps {
             self.queues[core as usize].push(step, self.names, &mut self.words)?;
         } else {
-            add_word(&step, self.names, &mut self.words)?;
+            add_word_of_step(&step, self.names, &mut self.words)?;
         }
         self.met = self.met.max(core + 1);
         Ok(())
     }
 
     // Takes the step that the stream holds, if it holds one. If there is an error, nothing changes.
-    fn take_held(&mut self, keeps: bool) -> Result<(), AheadError>
+    fn take_held_step(&mut self, keeps: bool) -> Result<(), AheadError>
         requires { IsSome self.old.stream.held }
         ensures same { OnErr result (self.new ≡ self.old) }
         ensures one { OnOk result ((bytes : Option (List ℕ)) → HasTakenOne keeps
@@ -136,7 +136,7 @@ impl ReadAhead {
     {
         // The check finds what a step holds only where the function names its type.
         let _inside: Option<Op> = None;
-        let Some((core, step)) = self.stream.held() else {
+        let Some((core, step)) = self.stream.held_step() else {
             return Ok(());
         };
         if core as usize >= self.queues.len() {
@@ -152,7 +152,7 @@ impl ReadAhead {
     }
 
     // Reads on until the next step is taken, and put into its core's queue if it is kept: whether there was one.
-    fn take_one<S: Source>(&mut self, source: &mut S, keeps: bool) -> Result<bool, AheadError>
+    fn take_next_step<S: Source>(&mut self, source: &mut S, keeps: bool) -> Result<bool, AheadError>
         ensures one { result ≡ Ok true → HasTakenOne keeps
             (coming self.old.stream (S.remaining source.old))
             (coming self.new.stream (S.remaining source.new)) self.old self.new }
@@ -172,18 +172,18 @@ impl ReadAhead {
             (S.failures source.new) (where_known (S.remaining source.old)
             (coming self.new.stream (S.remaining source.new)))) }
     {
-        match self.stream.hold_next(source) {
+        match self.stream.hold_next_step(source) {
             Err(error) => Err(AheadError::Text(error)),
             Ok(false) => Ok(false),
             Ok(true) => {
-                self.take_held(keeps)?;
+                self.take_held_step(keeps)?;
                 Ok(true)
             }
         }
     }
 
     // The first queue from this one on that has no step, or a number that no queue has.
-    fn next_empty(&self, from: usize) -> usize
+    fn next_empty_queue(&self, from: usize) -> usize
         ensures some { (core : ℕ) → from ≤ core → core < result → lane self.now.queues core ≢ [] }
         ensures none { lane self.now.queues result ≡ [] }
     {
@@ -196,7 +196,7 @@ impl ReadAhead {
     }
 
     // Whether steps are left to be read, or there is a queue with this number or a greater one.
-    fn reads_on(&self, left: usize, at: usize) -> bool
+    fn needs_more_steps(&self, left: usize, at: usize) -> bool
         ensures more { result ≡ true → (0 < left) ⊎ (at < length self.now.queues) }
         ensures enough { result ≡ false → (left ≡ 0) × (length self.now.queues ≤ at) }
     {
@@ -226,13 +226,13 @@ impl ReadAhead {
             (coming self.new.stream (S.remaining source.new)))) }
     {
         let mut left = wanted;
-        let mut at = self.next_empty(0);
-        'steps: while self.reads_on(left, at) {
-            if !self.take_one(source, true)? {
+        let mut at = self.next_empty_queue(0);
+        'steps: while self.needs_more_steps(left, at) {
+            if !self.take_next_step(source, true)? {
                 return Ok(false);
             }
             left = left.saturating_sub(1);
-            at = self.next_empty(at);
+            at = self.next_empty_queue(at);
         }
         Ok(true)
     }
@@ -255,7 +255,7 @@ impl ReadAhead {
             (coming self.new.stream (S.remaining source.new)))) }
     {
         let mut some = false;
-        'steps: while self.take_one(source, false)? {
+        'steps: while self.take_next_step(source, false)? {
             some = true;
         }
         Ok(some)
@@ -281,9 +281,9 @@ impl ReadAhead {
         if cores == 0 {
             return 0;
         }
-        let mut shortest = self.left(0);
+        let mut shortest = self.steps_left(0);
         for at in 1..cores {
-            shortest = shortest.min(self.left(at));
+            shortest = shortest.min(self.steps_left(at));
         }
         shortest
     }

@@ -55,7 +55,7 @@ impl FromLines for Records {
     }
 }
 
-fn read_whole<S: Source>(alloc: Global, source: &mut S) -> Result<Vec<Record>, TraceError>
+fn read_record_text<S: Source>(alloc: Global, source: &mut S) -> Result<Vec<Record>, TraceError>
     ensures told { IfOk result (λ records. IfSome (S.remaining source.old)
         (λ bytes. records_at bytes ≡ Ok records.items)) }
     ensures end { OnOk result (IfSome (S.remaining source.old)
@@ -96,5 +96,5 @@ pub fn read_records<S: Source>(alloc: Global, source: &mut S) -> Result<Vec<Reco
     ensures end { OnOk result (IfSome (S.remaining source.old)
         (λ known. AtEnd (S.remaining source.new))) }
 {
-    read_whole(alloc, source)
+    read_record_text(alloc, source)
 }

@@ -59,7 +59,7 @@ impl Blocks {
     }
 
     /// The next step.
-    pub(crate) fn first(&self) -> Option<Step>
+    pub(crate) fn first_step(&self) -> Option<Step>
         requires { IsTurned self.now }
         ensures { result ≡ first_step (waiting self.now) }
     {
@@ -71,7 +71,7 @@ impl Blocks {
 
     // Goes on to the next block if no step is left in the first one: to the first of those between or, if there is
     // none, to the last, whose place the emptied one takes.
-    fn turn(&mut self)
+    fn replace_emptied_front(&mut self)
         ensures same { waiting self.new ≡ waiting self.old }
         ensures turned { IsTurned self.new }
     {
@@ -89,7 +89,7 @@ impl Blocks {
     }
 
     /// Takes the next step.
-    pub(crate) fn take_first(&mut self)
+    pub(crate) fn take_first_step(&mut self)
         requires turned { IsTurned self.old }
         requires some { waiting self.old ≢ [] }
         ensures waiting { (received : Option ℕ) →
@@ -97,7 +97,7 @@ impl Blocks {
         ensures turned { IsTurned self.new }
     {
         self.taken += 1;
-        self.turn();
+        self.replace_emptied_front();
     }
 
     /// Makes room for a step. If the last block is full, another one begins behind it. If an allocation fails, nothing
@@ -122,7 +122,7 @@ impl Blocks {
     }
 
     /// Puts a step behind those that wait, where there is room for it.
-    pub(crate) fn put(&mut self, step: Step)
+    pub(crate) fn push_step(&mut self, step: Step)
         requires room { vec_len self.old.back < vec_capacity self.old.back }
         ensures waiting { waiting self.new ≡ waiting self.old ++ step ∷ [] }
         ensures turned { IsTurned self.new }
@@ -130,6 +130,6 @@ impl Blocks {
         // The check finds what a step holds only where the function names its type.
         let _inside: Option<Op> = None;
         self.back.push_reserved(PackedStep::new(step));
-        self.turn();
+        self.replace_emptied_front();
     }
 }

@@ -9,7 +9,7 @@ ghost use Rattle.trace_reader.specs.declared.limits.TheConstants.{MOST_NUMBERED}
 use crate::blocks::Block;
 use crate::limits::MOST_NUMBERED;
 use crate::next_lines::next_line;
-use crate::trace_texts::form_and_step;
+use crate::trace_texts::read_form_and_step;
 use byte_streams::Source;
 use physiological_order::Op;
 use trace_lines::{Form, Step, TraceError};
@@ -71,7 +71,7 @@ impl StepStream {
         let Some(length) = next_line(&mut self.block, source, self.number, MOST_NUMBERED)? else {
             return Ok(false);
         };
-        match form_and_step(self.form, self.block.front(length)) {
+        match read_form_and_step(self.form, self.block.front(length)) {
             Err(kind) => Err(TraceError {
                 line: self.number + 1,
                 kind,
@@ -87,7 +87,7 @@ impl StepStream {
     }
 
     /// Reads on until the next step is held: whether there is one. What is to come stays as it is.
-    pub(crate) fn hold_next<S: Source>(&mut self, source: &mut S) -> Result<bool, TraceError>
+    pub(crate) fn hold_next_step<S: Source>(&mut self, source: &mut S) -> Result<bool, TraceError>
         ensures kept { Yields (coming self.old (S.remaining source.old))
             (coming self.new (S.remaining source.new)) [] }
         ensures held { IfOk result (λ held. held ≡ is_some self.new.held) }
@@ -109,7 +109,7 @@ impl StepStream {
     }
 
     /// The step that is held.
-    pub(crate) fn held(&self) -> Option<(u32, Step)>
+    pub(crate) fn held_step(&self) -> Option<(u32, Step)>
         ensures held { result ≡ self.now.held }
         ensures few { IfSome result (λ told. told.0 < 64) }
     {
@@ -153,7 +153,7 @@ impl StepStream {
         ensures fault { IfErr result (Interrupts (S.failures source.old) (S.failures source.new)
             (coming self.old (S.remaining source.old))) }
     {
-        if !self.hold_next(source)? {
+        if !self.hold_next_step(source)? {
             return Ok(None);
         }
         Ok(self.release_step())

@@ -23,7 +23,7 @@ use trace_lines::{Form, Kind, Step, TraceError, form_line, trace_line};
 type Said = (Option<Form>, Option<(u32, Step)>);
 
 /// What a line says in a form that is known.
-fn step_in_form(form: Form, line: &[u8]) -> Result<Said, Kind>
+fn read_line_in_form(form: Form, line: &[u8]) -> Result<Said, Kind>
     ensures told { result ≡ step_said form (fields_of line.now) }
     ensures few { IfOk result (λ said. IfSome said.1 (λ told. told.0 < 64)) }
 {
@@ -33,15 +33,15 @@ fn step_in_form(form: Form, line: &[u8]) -> Result<Said, Kind>
 
 /// What a line says after lines that declared this form or none: the form from there on, and a step of a core.
 #[tactic(auto, unfolding(crate::specs::Reading::said_at))]
-pub(crate) fn form_and_step(form: Option<Form>, line: &[u8]) -> Result<Said, Kind>
+pub(crate) fn read_form_and_step(form: Option<Form>, line: &[u8]) -> Result<Said, Kind>
     ensures told { result ≡ said_at form (fields_of line.now) }
     ensures few { IfOk result (λ said. IfSome said.1 (λ told. told.0 < 64)) }
 {
     match form {
-        Some(form) => step_in_form(form, line),
+        Some(form) => read_line_in_form(form, line),
         None => match form_line(line)? {
             None => Ok((None, None)),
-            Some(Form::One) => step_in_form(Form::One, line),
+            Some(Form::One) => read_line_in_form(Form::One, line),
             Some(Form::Two) => Ok((Some(Form::Two), None)),
         },
     }
@@ -72,7 +72,7 @@ impl FromLines for Steps {
     ghost holds = { λ steps told form. IsByCore told steps.trace × (steps.form ≡ form) };
 
     fn add_line(&mut self, number: usize, line: &[u8]) -> Result<(), TraceError> {
-        match form_and_step(self.form, line) {
+        match read_form_and_step(self.form, line) {
             Err(kind) => Err(TraceError { line: number, kind }),
             Ok((form, told)) => {
                 self.form = form;
@@ -91,7 +91,7 @@ impl FromLines for Steps {
     }
 }
 
-fn read_whole<S: Source>(alloc: Global, source: &mut S) -> Result<Trace, TraceError>
+fn read_trace_text<S: Source>(alloc: Global, source: &mut S) -> Result<Trace, TraceError>
     ensures told { IfOk result (λ trace. IfSome (S.remaining source.old)
         (λ bytes. (told : List (ℕ × Step)) × (steps_read bytes ≡ Ok told) × IsByCore told trace)) }
     ensures end { OnOk result (IfSome (S.remaining source.old)
@@ -134,5 +134,5 @@ pub fn read<S: Source>(alloc: Global, source: &mut S) -> Result<Trace, TraceErro
     ensures end { OnOk result (IfSome (S.remaining source.old)
         (λ known. AtEnd (S.remaining source.new))) }
 {
-    read_whole(alloc, source)
+    read_trace_text(alloc, source)
 }

@@ -11,94 +11,124 @@ ghost use Rattle.trace_texts.specs.CountLines.{totals_text};
 
 use event_counts::{CoreCounts, EventCounts, KindCounts, PartCounts};
 use itoa::Buffer;
-use report_lines::{Layout, put_either, put_field, put_list_closing, put_parting};
+use report_lines::{
+    Layout, put_by_layout, put_item_separator, put_labelled_number, put_list_closing,
+};
 use std::alloc::AllocError;
 
 // A name and a number, behind what opens the name.
 #[tactic(auto, unfolding(crate::specs::CountLines::named))]
-fn put_named(out: &mut Vec<u8>, layout: Layout, name: &[u8], number: u64) -> Result<(), AllocError>
+fn put_named_count(
+    out: &mut Vec<u8>,
+    layout: Layout,
+    name: &[u8],
+    number: u64,
+) -> Result<(), AllocError>
     ensures { OnOk result (out.new.items ≡ out.old.items ++ named layout name.now number) }
 {
     let mut digits = Buffer::new();
     out.extend_from_slice(name)?;
-    put_either(out, layout, b" ", b"\":")?;
+    put_by_layout(out, layout, b" ", b"\":")?;
     out.extend_from_slice(digits.format(number).as_bytes())
 }
 
 // The same behind another number.
 #[tactic(auto, unfolding(crate::specs::CountLines::next_named))]
-fn put_next(out: &mut Vec<u8>, layout: Layout, name: &[u8], number: u64) -> Result<(), AllocError>
+fn put_next_count(
+    out: &mut Vec<u8>,
+    layout: Layout,
+    name: &[u8],
+    number: u64,
+) -> Result<(), AllocError>
     ensures { OnOk result (out.new.items ≡ out.old.items ++ next_named layout name.now number) }
 {
-    put_either(out, layout, b" ", b",\"")?;
-    put_named(out, layout, name, number)
+    put_by_layout(out, layout, b" ", b",\"")?;
+    put_named_count(out, layout, name, number)
 }
 
 // A kind of message and how many were sent, if any were.
-fn put_kind(out: &mut Vec<u8>, layout: Layout, name: &[u8], number: u64) -> Result<(), AllocError>
+fn put_kind_if_sent(
+    out: &mut Vec<u8>,
+    layout: Layout,
+    name: &[u8],
+    number: u64,
+) -> Result<(), AllocError>
     ensures { OnOk result (out.new.items ≡ out.old.items ++ kind_text layout name.now number) }
 {
     if number == 0 {
         return Ok(());
     }
-    put_next(out, layout, name, number)
+    put_next_count(out, layout, name, number)
 }
 
 // Requests of cores, and the replies to them.
-fn put_asked(out: &mut Vec<u8>, layout: Layout, sent: &KindCounts) -> Result<(), AllocError>
+fn put_requests_and_replies(
+    out: &mut Vec<u8>,
+    layout: Layout,
+    sent: &KindCounts,
+) -> Result<(), AllocError>
     ensures { OnOk result (out.new.items ≡ out.old.items ++ asked_text layout sent.now) }
 {
-    put_kind(out, layout, b"ShReq", sent.sh_req)?;
-    put_kind(out, layout, b"ExReq", sent.ex_req)?;
-    put_kind(out, layout, b"ShRep", sent.sh_rep)?;
-    put_kind(out, layout, b"ExRep", sent.ex_rep)?;
-    put_kind(out, layout, b"RenewRep", sent.renew_rep)?;
-    put_kind(out, layout, b"UpgradeRep", sent.upgrade_rep)
+    put_kind_if_sent(out, layout, b"ShReq", sent.sh_req)?;
+    put_kind_if_sent(out, layout, b"ExReq", sent.ex_req)?;
+    put_kind_if_sent(out, layout, b"ShRep", sent.sh_rep)?;
+    put_kind_if_sent(out, layout, b"ExRep", sent.ex_rep)?;
+    put_kind_if_sent(out, layout, b"RenewRep", sent.renew_rep)?;
+    put_kind_if_sent(out, layout, b"UpgradeRep", sent.upgrade_rep)
 }
 
 // Recalls, and what they return.
-fn put_recalled(out: &mut Vec<u8>, layout: Layout, sent: &KindCounts) -> Result<(), AllocError>
+fn put_recalls_and_returns(
+    out: &mut Vec<u8>,
+    layout: Layout,
+    sent: &KindCounts,
+) -> Result<(), AllocError>
     ensures { OnOk result (out.new.items ≡ out.old.items ++ recalled_text layout sent.now) }
 {
-    put_kind(out, layout, b"FlushReq", sent.flush_req)?;
-    put_kind(out, layout, b"WbReq", sent.wb_req)?;
-    put_kind(out, layout, b"FlushRep", sent.flush_rep)?;
-    put_kind(out, layout, b"WbRep", sent.wb_rep)
+    put_kind_if_sent(out, layout, b"FlushReq", sent.flush_req)?;
+    put_kind_if_sent(out, layout, b"WbReq", sent.wb_req)?;
+    put_kind_if_sent(out, layout, b"FlushRep", sent.flush_rep)?;
+    put_kind_if_sent(out, layout, b"WbRep", sent.wb_rep)
 }
 
 // Messages between a bank and its DRAM.
-fn put_dram(out: &mut Vec<u8>, layout: Layout, sent: &KindCounts) -> Result<(), AllocError>
+fn put_dram_messages(out: &mut Vec<u8>, layout: Layout, sent: &KindCounts) -> Result<(), AllocError>
     ensures { OnOk result (out.new.items ≡ out.old.items ++ dram_text layout sent.now) }
 {
-    put_kind(out, layout, b"DramLd", sent.dram_ld)?;
-    put_kind(out, layout, b"DramLdRep", sent.dram_ld_rep)?;
-    put_kind(out, layout, b"DramSt", sent.dram_st)?;
-    put_kind(out, layout, b"DramStRep", sent.dram_st_rep)
+    put_kind_if_sent(out, layout, b"DramLd", sent.dram_ld)?;
+    put_kind_if_sent(out, layout, b"DramLdRep", sent.dram_ld_rep)?;
+    put_kind_if_sent(out, layout, b"DramSt", sent.dram_st)?;
+    put_kind_if_sent(out, layout, b"DramStRep", sent.dram_st_rep)
 }
 
 // The messages by kind.
-fn put_sent(out: &mut Vec<u8>, layout: Layout, sent: &KindCounts) -> Result<(), AllocError>
+fn put_sent_messages(out: &mut Vec<u8>, layout: Layout, sent: &KindCounts) -> Result<(), AllocError>
     ensures { OnOk result (out.new.items ≡ out.old.items ++ sent_text layout sent.now) }
 {
-    put_asked(out, layout, sent)?;
-    put_recalled(out, layout, sent)?;
-    put_dram(out, layout, sent)
+    put_requests_and_replies(out, layout, sent)?;
+    put_recalls_and_returns(out, layout, sent)?;
+    put_dram_messages(out, layout, sent)
 }
 
 // What stands before the first number of a part.
 #[tactic(auto, unfolding(crate::specs::CountLines::part_text))]
-fn put_part(out: &mut Vec<u8>, layout: Layout, part: &[u8], number: usize) -> Result<(), AllocError>
+fn put_part_opening(
+    out: &mut Vec<u8>,
+    layout: Layout,
+    part: &[u8],
+    number: usize,
+) -> Result<(), AllocError>
     ensures { OnOk result (out.new.items ≡ out.old.items ++ part_text layout part.now number) }
 {
     match layout {
-        Layout::Lines => put_part_of_line(out, part, number),
+        Layout::Lines => put_part_name(out, part, number),
         Layout::Json => out.extend_from_slice(b"{\""),
     }
 }
 
 // The name and the number of a part, and a space.
 #[tactic(auto, unfolding(crate::specs::CountLines::part_text))]
-fn put_part_of_line(out: &mut Vec<u8>, part: &[u8], number: usize) -> Result<(), AllocError>
+fn put_part_name(out: &mut Vec<u8>, part: &[u8], number: usize) -> Result<(), AllocError>
     ensures { OnOk result (out.new.items ≡ out.old.items ++ part_text Lines part.now number) }
 {
     let mut digits = Buffer::new();
@@ -109,41 +139,49 @@ fn put_part_of_line(out: &mut Vec<u8>, part: &[u8], number: usize) -> Result<(),
 }
 
 // The operations of a core that completed.
-fn put_done(out: &mut Vec<u8>, layout: Layout, counts: &CoreCounts) -> Result<(), AllocError>
+fn put_completed_operations(
+    out: &mut Vec<u8>,
+    layout: Layout,
+    counts: &CoreCounts,
+) -> Result<(), AllocError>
     ensures { OnOk result (out.new.items ≡ out.old.items ++ done_text layout counts.now) }
 {
-    put_named(out, layout, b"loads", counts.loads)?;
-    put_next(out, layout, b"stores", counts.stores)?;
-    put_next(out, layout, b"swaps", counts.swaps)
+    put_named_count(out, layout, b"loads", counts.loads)?;
+    put_next_count(out, layout, b"stores", counts.stores)?;
+    put_next_count(out, layout, b"swaps", counts.swaps)
 }
 
 // Which of them were hits, and the misses by their causes.
-fn put_found(out: &mut Vec<u8>, layout: Layout, counts: &CoreCounts) -> Result<(), AllocError>
+fn put_hits_and_misses(
+    out: &mut Vec<u8>,
+    layout: Layout,
+    counts: &CoreCounts,
+) -> Result<(), AllocError>
     ensures { OnOk result (out.new.items ≡ out.old.items ++ found_text layout counts.now) }
 {
-    put_next(out, layout, b"hits", counts.hits)?;
-    put_next(out, layout, b"cold", counts.cold)?;
-    put_next(out, layout, b"evicted", counts.evicted)?;
-    put_next(out, layout, b"recalled", counts.recalled)?;
-    put_next(out, layout, b"ended", counts.ended)?;
-    put_next(out, layout, b"shared", counts.shared)
+    put_next_count(out, layout, b"hits", counts.hits)?;
+    put_next_count(out, layout, b"cold", counts.cold)?;
+    put_next_count(out, layout, b"evicted", counts.evicted)?;
+    put_next_count(out, layout, b"recalled", counts.recalled)?;
+    put_next_count(out, layout, b"ended", counts.ended)?;
+    put_next_count(out, layout, b"shared", counts.shared)
 }
 
 // What became of its copies, the deliveries to it that were held or dropped, and its time.
-fn put_copies(out: &mut Vec<u8>, layout: Layout, counts: &CoreCounts) -> Result<(), AllocError>
+fn put_copy_counts(out: &mut Vec<u8>, layout: Layout, counts: &CoreCounts) -> Result<(), AllocError>
     ensures { OnOk result (out.new.items ≡ out.old.items ++ copies_text layout counts.now) }
 {
-    put_next(out, layout, b"evictions", counts.part.evictions)?;
-    put_next(out, layout, b"returns", counts.returns)?;
-    put_next(out, layout, b"reloads", counts.reloads)?;
-    put_next(out, layout, b"held", counts.part.held)?;
-    put_next(out, layout, b"dropped", counts.part.dropped)?;
-    put_next(out, layout, b"time", counts.last_time)
+    put_next_count(out, layout, b"evictions", counts.part.evictions)?;
+    put_next_count(out, layout, b"returns", counts.returns)?;
+    put_next_count(out, layout, b"reloads", counts.reloads)?;
+    put_next_count(out, layout, b"held", counts.part.held)?;
+    put_next_count(out, layout, b"dropped", counts.part.dropped)?;
+    put_next_count(out, layout, b"time", counts.last_time)
 }
 
 // A core.
 #[tactic(auto, unfolding(crate::specs::CountLines::core_text))]
-fn put_core(
+fn put_core_counts(
     out: &mut Vec<u8>,
     layout: Layout,
     core: usize,
@@ -151,17 +189,17 @@ fn put_core(
 ) -> Result<(), AllocError>
     ensures { OnOk result (out.new.items ≡ out.old.items ++ core_text layout core counts.now) }
 {
-    put_part(out, layout, b"core ", core)?;
-    put_done(out, layout, counts)?;
-    put_found(out, layout, counts)?;
-    put_copies(out, layout, counts)?;
-    put_sent(out, layout, &counts.part.sent)?;
-    put_either(out, layout, b"\n", b"}")
+    put_part_opening(out, layout, b"core ", core)?;
+    put_completed_operations(out, layout, counts)?;
+    put_hits_and_misses(out, layout, counts)?;
+    put_copy_counts(out, layout, counts)?;
+    put_sent_messages(out, layout, &counts.part.sent)?;
+    put_by_layout(out, layout, b"\n", b"}")
 }
 
 // A bank.
 #[tactic(auto, unfolding(crate::specs::CountLines::bank_text))]
-fn put_bank(
+fn put_bank_counts(
     out: &mut Vec<u8>,
     layout: Layout,
     bank: usize,
@@ -169,59 +207,71 @@ fn put_bank(
 ) -> Result<(), AllocError>
     ensures { OnOk result (out.new.items ≡ out.old.items ++ bank_text layout bank counts.now) }
 {
-    put_part(out, layout, b"bank ", bank)?;
-    put_named(out, layout, b"evictions", counts.evictions)?;
-    put_next(out, layout, b"held", counts.held)?;
-    put_next(out, layout, b"dropped", counts.dropped)?;
-    put_sent(out, layout, &counts.sent)?;
-    put_either(out, layout, b"\n", b"}")
+    put_part_opening(out, layout, b"bank ", bank)?;
+    put_named_count(out, layout, b"evictions", counts.evictions)?;
+    put_next_count(out, layout, b"held", counts.held)?;
+    put_next_count(out, layout, b"dropped", counts.dropped)?;
+    put_sent_messages(out, layout, &counts.sent)?;
+    put_by_layout(out, layout, b"\n", b"}")
 }
 
 // The events, and the deliveries that were held or dropped.
-fn put_totals(out: &mut Vec<u8>, layout: Layout, counts: &EventCounts) -> Result<(), AllocError>
+fn put_event_totals(
+    out: &mut Vec<u8>,
+    layout: Layout,
+    counts: &EventCounts,
+) -> Result<(), AllocError>
     ensures { OnOk result (out.new.items ≡ out.old.items ++ totals_text layout counts.now) }
 {
-    put_either(out, layout, b"", b"\"")?;
-    put_named(out, layout, b"events", counts.events())?;
-    put_either(out, layout, b"\n", b"")?;
-    put_field(out, layout, b"held", u128::from(counts.held()))?;
-    put_field(out, layout, b"dropped", u128::from(counts.dropped()))
+    put_by_layout(out, layout, b"", b"\"")?;
+    put_named_count(out, layout, b"events", counts.events())?;
+    put_by_layout(out, layout, b"\n", b"")?;
+    put_labelled_number(out, layout, b"held", u128::from(counts.held()))?;
+    put_labelled_number(out, layout, b"dropped", u128::from(counts.dropped()))
 }
 
-fn put_cores(out: &mut Vec<u8>, layout: Layout, cores: &[CoreCounts]) -> Result<(), AllocError>
+fn put_counts_of_cores(
+    out: &mut Vec<u8>,
+    layout: Layout,
+    cores: &[CoreCounts],
+) -> Result<(), AllocError>
     ensures { OnOk result (out.new.items ≡ out.old.items ++ cores_text layout cores.now) }
 {
-    put_either(out, layout, b"", b",\"cores\":[")?;
+    put_by_layout(out, layout, b"", b",\"cores\":[")?;
     for core in 0..cores.len() {
-        put_parting(out, layout, core == 0)?;
-        put_core(out, layout, core, &cores[core])?;
+        put_item_separator(out, layout, core == 0)?;
+        put_core_counts(out, layout, core, &cores[core])?;
     }
     put_list_closing(out, layout)
 }
 
-fn put_banks(out: &mut Vec<u8>, layout: Layout, banks: &[PartCounts]) -> Result<(), AllocError>
+fn put_counts_of_banks(
+    out: &mut Vec<u8>,
+    layout: Layout,
+    banks: &[PartCounts],
+) -> Result<(), AllocError>
     ensures { OnOk result (out.new.items ≡ out.old.items ++ banks_text layout banks.now) }
 {
-    put_either(out, layout, b"", b",\"banks\":[")?;
+    put_by_layout(out, layout, b"", b",\"banks\":[")?;
     for bank in 0..banks.len() {
-        put_parting(out, layout, bank == 0)?;
-        put_bank(out, layout, bank, &banks[bank])?;
+        put_item_separator(out, layout, bank == 0)?;
+        put_bank_counts(out, layout, bank, &banks[bank])?;
     }
     put_list_closing(out, layout)
 }
 
 // All that is counted.
 #[tactic(auto, unfolding(crate::specs::CountLines::counted_text))]
-fn put_counted(out: &mut Vec<u8>, layout: Layout, counts: &EventCounts) -> Result<(), AllocError>
+fn put_all_counts(out: &mut Vec<u8>, layout: Layout, counts: &EventCounts) -> Result<(), AllocError>
     ensures { OnOk result (out.new.items ≡ out.old.items ++ counted_text layout counts.now) }
 {
-    put_totals(out, layout, counts)?;
-    put_cores(out, layout, counts.cores())?;
-    put_banks(out, layout, counts.banks())
+    put_event_totals(out, layout, counts)?;
+    put_counts_of_cores(out, layout, counts.cores())?;
+    put_counts_of_banks(out, layout, counts.banks())
 }
 
 // How many operations have completed at a row, if there is one each `every`.
-fn completed_at(every: u64, row: usize) -> u128
+fn operations_at_row(every: u64, row: usize) -> u128
     requires { row < 2 ^ 64 - 1 }
     ensures { result ≡ every * (row + 1) }
 {
@@ -233,23 +283,27 @@ fn completed_at(every: u64, row: usize) -> u128
 fn put_row_opening(out: &mut Vec<u8>, layout: Layout) -> Result<(), AllocError>
     ensures { OnOk result (out.new.items ≡ out.old.items ++ row_opening layout) }
 {
-    put_either(out, layout, b"row ", b"{\"completed\":")
+    put_by_layout(out, layout, b"row ", b"{\"completed\":")
 }
 
 // Before the counts of a row: how many operations had completed.
 #[tactic(auto, unfolding(crate::specs::CountLines::completed_text))]
-fn put_completed(out: &mut Vec<u8>, layout: Layout, completed: u128) -> Result<(), AllocError>
+fn put_operations_at_row(
+    out: &mut Vec<u8>,
+    layout: Layout,
+    completed: u128,
+) -> Result<(), AllocError>
     ensures { OnOk result (out.new.items ≡ out.old.items ++ completed_text layout completed) }
 {
     let mut digits = Buffer::new();
     put_row_opening(out, layout)?;
     out.extend_from_slice(digits.format(completed).as_bytes())?;
-    put_either(out, layout, b"\n", b",")
+    put_by_layout(out, layout, b"\n", b",")
 }
 
 // A row: how many operations had completed, and what was counted by then.
 #[tactic(auto, unfolding(crate::specs::CountLines::row_text))]
-fn put_row(
+fn put_count_row(
     out: &mut Vec<u8>,
     layout: Layout,
     every: u64,
@@ -260,14 +314,14 @@ fn put_row(
     ensures { OnOk result (out.new.items ≡
         out.old.items ++ row_text layout every row counts.now) }
 {
-    put_completed(out, layout, completed_at(every, row))?;
-    put_counted(out, layout, counts)?;
-    put_either(out, layout, b"", b"}")
+    put_operations_at_row(out, layout, operations_at_row(every, row))?;
+    put_all_counts(out, layout, counts)?;
+    put_by_layout(out, layout, b"", b"}")
 }
 
 // The rows, one each `every` operations.
 #[tactic(auto, unfolding(crate::specs::CountLines::rows_text))]
-fn put_row_list(
+fn put_count_rows(
     out: &mut Vec<u8>,
     layout: Layout,
     every: u64,
@@ -276,17 +330,17 @@ fn put_row_list(
     ensures { OnOk result (out.new.items ≡
         out.old.items ++ rows_text layout (Some every) rows.now) }
 {
-    put_either(out, layout, b"", b",\"rows\":[")?;
+    put_by_layout(out, layout, b"", b",\"rows\":[")?;
     for row in 0..rows.len() {
-        put_parting(out, layout, row == 0)?;
-        put_row(out, layout, every, row, &rows[row])?;
+        put_item_separator(out, layout, row == 0)?;
+        put_count_row(out, layout, every, row, &rows[row])?;
     }
     put_list_closing(out, layout)
 }
 
 // The rows, if there are to be any.
 #[tactic(auto, unfolding(crate::specs::CountLines::rows_text))]
-fn put_rows(
+fn put_rows_if_asked(
     out: &mut Vec<u8>,
     layout: Layout,
     every: Option<u64>,
@@ -295,17 +349,17 @@ fn put_rows(
     ensures { OnOk result (out.new.items ≡ out.old.items ++ rows_text layout every rows.now) }
 {
     match every {
-        Some(every) => put_row_list(out, layout, every, rows),
+        Some(every) => put_count_rows(out, layout, every, rows),
         None => Ok(()),
     }
 }
 
 // What the counts at the end begin with.
 #[tactic(auto, unfolding(crate::specs::CountLines::end_opening))]
-fn put_end_opening(out: &mut Vec<u8>, layout: Layout) -> Result<(), AllocError>
+fn put_end_counts_opening(out: &mut Vec<u8>, layout: Layout) -> Result<(), AllocError>
     ensures { OnOk result (out.new.items ≡ out.old.items ++ end_opening layout) }
 {
-    put_either(out, layout, b"", b",\"counts\":{")
+    put_by_layout(out, layout, b"", b",\"counts\":{")
 }
 
 // The counts at the end.
@@ -313,9 +367,9 @@ fn put_end_opening(out: &mut Vec<u8>, layout: Layout) -> Result<(), AllocError>
 fn put_end_counts(out: &mut Vec<u8>, layout: Layout, counts: &EventCounts) -> Result<(), AllocError>
     ensures { OnOk result (out.new.items ≡ out.old.items ++ end_counts_text layout counts.now) }
 {
-    put_end_opening(out, layout)?;
-    put_counted(out, layout, counts)?;
-    put_either(out, layout, b"", b"}")
+    put_end_counts_opening(out, layout)?;
+    put_all_counts(out, layout, counts)?;
+    put_by_layout(out, layout, b"", b"}")
 }
 
 /// What a run did, in numbers, behind its report: if there is a row each `every` operations, each row with the counts
@@ -333,6 +387,6 @@ pub fn put_event_counts(
     ensures { OnOk result (out.new.items ≡
         out.old.items ++ event_counts_text layout every rows.now counts.now) }
 {
-    put_rows(out, layout, every, rows)?;
+    put_rows_if_asked(out, layout, every, rows)?;
     put_end_counts(out, layout, counts)
 }

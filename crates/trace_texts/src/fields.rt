@@ -28,7 +28,7 @@ fn write_access(letter: u8, word: WordAddr, bytes: &mut [u8], end: usize) -> usi
 }
 
 /// A number behind a space: where they begin.
-pub(crate) fn write_next(number: u64, bytes: &mut [u8], end: usize) -> usize
+pub(crate) fn write_spaced_number(number: u64, bytes: &mut [u8], end: usize) -> usize
     requires room { 21 ≤ end }
     requires within { end ≤ length bytes.old }
     ensures written { drop result bytes.new ≡ spaced (decimal number) ++ drop end bytes.old }
@@ -42,7 +42,7 @@ pub(crate) fn write_next(number: u64, bytes: &mut [u8], end: usize) -> usize
 }
 
 /// A value behind a space, if there is one: where they begin.
-pub(crate) fn write_value(value: Option<u64>, bytes: &mut [u8], end: usize) -> usize
+pub(crate) fn write_spaced_value(value: Option<u64>, bytes: &mut [u8], end: usize) -> usize
     requires room { 21 ≤ end }
     requires within { end ≤ length bytes.old }
     ensures written { drop result bytes.new ≡ spaced_value value ++ drop end bytes.old }
@@ -51,7 +51,7 @@ pub(crate) fn write_value(value: Option<u64>, bytes: &mut [u8], end: usize) -> u
     ensures ranged { IfSome value (λ v. v < 2 ^ 64) }
 {
     match value {
-        Some(value) => write_next(value, bytes, end),
+        Some(value) => write_spaced_number(value, bytes, end),
         None => end,
     }
 }
@@ -68,11 +68,11 @@ pub(crate) fn write_op(op: Op, bytes: &mut [u8], end: usize) -> usize
     match op {
         Op::Load(word) => write_access(b'R', word, bytes, end),
         Op::Store(word, value) => {
-            let end = write_next(value, bytes, end);
+            let end = write_spaced_number(value, bytes, end);
             write_access(b'W', word, bytes, end)
         }
         Op::Swap(word, value) => {
-            let end = write_next(value, bytes, end);
+            let end = write_spaced_number(value, bytes, end);
             write_access(b'S', word, bytes, end)
         }
     }

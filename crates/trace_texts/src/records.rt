@@ -7,7 +7,7 @@ ghost use Rattle.trace_reader.specs.declared.limits.TheConstants.{MOST_LINES};
 ghost use Rattle.trace_reader.specs.Grammar.{AreRecords};
 ghost use Rattle.text_lines.specs.Lines.{lines_of};
 
-use crate::fields::{write_next, write_op, write_value};
+use crate::fields::{write_op, write_spaced_number, write_spaced_value};
 use itoa::write_digits;
 use physiological_order::Record;
 use std::alloc::{AllocError, Global};
@@ -16,7 +16,7 @@ use std::alloc::{AllocError, Global};
 const ROOM: usize = 147;
 
 /// What follows the operation: where it begins.
-fn write_end(told: &Record, bytes: &mut [u8], end: usize) -> usize
+fn write_record_end(told: &Record, bytes: &mut [u8], end: usize) -> usize
     requires room { 64 ≤ end }
     requires within { end ≤ length bytes.old }
     ensures written { drop result bytes.new ≡ end_text told.now ++ drop end bytes.old }
@@ -25,9 +25,9 @@ fn write_end(told: &Record, bytes: &mut [u8], end: usize) -> usize
     ensures ranged { IsRangedEnd told.now }
 {
     bytes[end - 1] = b'\n';
-    let at = write_next(told.number, bytes, end - 1);
-    let at = write_next(told.ts, bytes, at);
-    write_value(told.received, bytes, at)
+    let at = write_spaced_number(told.number, bytes, end - 1);
+    let at = write_spaced_number(told.ts, bytes, at);
+    write_spaced_value(told.received, bytes, at)
 }
 
 /// A line: where it begins.
@@ -37,9 +37,9 @@ fn write_record(told: &Record, bytes: &mut [u8], end: usize) -> usize
     ensures written { drop result bytes.new ≡ record_text told.now ++ drop end bytes.old }
     ensures ranged { IsRanged told.now }
 {
-    let at = write_end(told, bytes, end);
+    let at = write_record_end(told, bytes, end);
     let at = write_op(told.op, bytes, at);
-    let at = write_next(u64::from(told.place), bytes, at);
+    let at = write_spaced_number(u64::from(told.place), bytes, at);
     write_digits(u64::from(told.core), bytes, at)
 }
 

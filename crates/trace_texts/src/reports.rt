@@ -11,13 +11,13 @@ ghost use Rattle.trace_texts.specs.Reports.{kinds_of, loads_among, stores_among,
 ghost use Rattle.trace_texts.specs.Reports.{kinds_text, told_text, trace_end_text, trace_text};
 ghost use Rattle.trace_texts.specs.Reports.{words_text};
 
-use crate::verdicts::put_order;
+use crate::verdicts::put_order_verdict;
 use network::Counts;
 use physiological_order::{Memory, Op, Record, Verdict, WordAddr, check};
 use programs::End;
 use report_lines::{
-    Layout, put_closing, put_counts, put_either, put_field, put_opening, put_parting, put_value,
-    put_word,
+    Layout, put_by_layout, put_item_separator, put_labelled_number, put_labelled_word,
+    put_memory_word, put_message_counts, put_report_closing, put_report_opening,
 };
 use std::alloc::{AllocError, Global};
 use trace_reader::Trace;
@@ -51,9 +51,9 @@ impl Kinds {
     {
         Kinds {
             completed: records.len(),
-            loads: loads_among(records),
-            stores: stores_among(records),
-            swaps: swaps_among(records),
+            loads: count_loads(records),
+            stores: count_stores(records),
+            swaps: count_swaps(records),
         }
     }
 }
@@ -77,7 +77,7 @@ fn is_load(op: Op) -> bool
     matches!(op, Op::Load(_))
 }
 
-fn loads_among(records: &[Record]) -> usize
+fn count_loads(records: &[Record]) -> usize
     ensures { result ≡ loads_among records.now }
 {
     records.iter().filter(|record| is_load(record.op)).count()
@@ -89,7 +89,7 @@ fn is_store(op: Op) -> bool
     matches!(op, Op::Store(_, _))
 }
 
-fn stores_among(records: &[Record]) -> usize
+fn count_stores(records: &[Record]) -> usize
     ensures { result ≡ stores_among records.now }
 {
     records.iter().filter(|record| is_store(record.op)).count()
@@ -101,14 +101,14 @@ fn is_swap(op: Op) -> bool
     matches!(op, Op::Swap(_, _))
 }
 
-fn swaps_among(records: &[Record]) -> usize
+fn count_swaps(records: &[Record]) -> usize
     ensures { result ≡ swaps_among records.now }
 {
     records.iter().filter(|record| is_swap(record.op)).count()
 }
 
 // The cores, how many operations were issued and completed, and how the run ended.
-fn put_ends(
+fn put_run_end(
     out: &mut Vec<u8>,
     layout: Layout,
     cores: u32,
@@ -117,36 +117,36 @@ fn put_ends(
 ) -> Result<(), AllocError>
     ensures { OnOk result (out.new.items ≡ out.old.items ++ trace_end_text layout cores run.now completed) }
 {
-    put_field(out, layout, b"cores", u128::from(cores))?;
-    put_field(out, layout, b"issued", run.issued)?;
-    put_field(out, layout, b"completed", completed as u128)?;
-    put_word(out, layout, b"end", end_name(run.end))
+    put_labelled_number(out, layout, b"cores", u128::from(cores))?;
+    put_labelled_number(out, layout, b"issued", run.issued)?;
+    put_labelled_number(out, layout, b"completed", completed as u128)?;
+    put_labelled_word(out, layout, b"end", end_name(run.end))
 }
 
 // How many loads, stores and swaps there are among the completed operations.
-fn put_kinds(out: &mut Vec<u8>, layout: Layout, done: &Kinds) -> Result<(), AllocError>
+fn put_operation_kinds(out: &mut Vec<u8>, layout: Layout, done: &Kinds) -> Result<(), AllocError>
     ensures { OnOk result (out.new.items ≡ out.old.items ++ kinds_text layout done.now) }
 {
-    put_field(out, layout, b"loads", done.loads as u128)?;
-    put_field(out, layout, b"stores", done.stores as u128)?;
-    put_field(out, layout, b"swaps", done.swaps as u128)
+    put_labelled_number(out, layout, b"loads", done.loads as u128)?;
+    put_labelled_number(out, layout, b"stores", done.stores as u128)?;
+    put_labelled_number(out, layout, b"swaps", done.swaps as u128)
 }
 
 // Each word with its value, in order.
-fn put_values(
+fn put_word_values(
     out: &mut Vec<u8>,
     layout: Layout,
     values: &[(WordAddr, u64)],
 ) -> Result<(), AllocError>
     ensures { OnOk result (out.new.items ≡ out.old.items ++ words_text layout values.now) }
 {
-    put_either(out, layout, b"", b",\"words\":{")?;
+    put_by_layout(out, layout, b"", b",\"words\":{")?;
     for at in 0..values.len() {
-        put_parting(out, layout, at == 0)?;
+        put_item_separator(out, layout, at == 0)?;
         let (word, value) = values[at];
-        put_value(out, layout, word, value)?;
+        put_memory_word(out, layout, word, value)?;
     }
-    put_either(out, layout, b"", b"}")
+    put_by_layout(out, layout, b"", b"}")
 }
 
 /// The text that reports on the run of a trace that left these records, by rising number, and these values of the
@@ -170,13 +170,14 @@ pub fn trace_text(
     let issued = trace.into_issued()?;
     let verdict = check(alloc, &Memory::new(alloc), &issued, records)?;
     let done = Kinds::of(records);
-    let mut text = report_with(alloc, layout, cores, run, verdict, &done, values)?;
-    put_closing(&mut text, layout)?;
+    let mut text = report_with_verdict(alloc, layout, cores, run, verdict, &done, values)?;
+    put_report_closing(&mut text, layout)?;
     Ok(text)
 }
 
 /// What `trace_text` answers of records that are legal, without a check of them, and without what closes an object:
-/// what the run did, in numbers, may stand in front of that (`put_event_counts`, and `put_closing` of report_lines).
+/// what the run did, in numbers, may stand in front of that (`put_event_counts`, and `put_report_closing` of
+/// report_lines).
 pub fn legal_trace_text(
     alloc: Global,
     layout: Layout,
@@ -206,12 +207,12 @@ pub fn told_trace_text(
     ensures { IfOk result (λ text.
         text.items ≡ told_text layout cores run.now Verdict.Legal done.now values.now) }
 {
-    report_with(alloc, layout, cores, run, Verdict::Legal, done, values)
+    report_with_verdict(alloc, layout, cores, run, Verdict::Legal, done, values)
 }
 
 // The report without what closes it, with this verdict on the records.
 #[tactic(auto, unfolding(crate::specs::Reports::told_text))]
-fn report_with(
+fn report_with_verdict(
     alloc: Global,
     layout: Layout,
     cores: u32,
@@ -224,12 +225,12 @@ fn report_with(
         text.items ≡ told_text layout cores run.now verdict done.now values.now) }
 {
     let mut out = Vec::new(alloc);
-    put_opening(&mut out, layout, b"trace")?;
-    put_ends(&mut out, layout, cores, run, done.completed)?;
-    put_kinds(&mut out, layout, done)?;
-    put_counts(&mut out, layout, run.counts)?;
-    put_field(&mut out, layout, b"stale-hits", u128::from(run.stale))?;
-    put_order(&mut out, layout, verdict)?;
-    put_values(&mut out, layout, values)?;
+    put_report_opening(&mut out, layout, b"trace")?;
+    put_run_end(&mut out, layout, cores, run, done.completed)?;
+    put_operation_kinds(&mut out, layout, done)?;
+    put_message_counts(&mut out, layout, run.counts)?;
+    put_labelled_number(&mut out, layout, b"stale-hits", u128::from(run.stale))?;
+    put_order_verdict(&mut out, layout, verdict)?;
+    put_word_values(&mut out, layout, values)?;
     Ok(out)
 }

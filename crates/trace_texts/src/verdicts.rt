@@ -9,7 +9,10 @@ ghost use Rattle.trace_texts.specs.Verdicts.{verdict_text, wrong_number};
 
 use itoa::Buffer;
 use physiological_order::Verdict;
-use report_lines::{Layout, put_closing, put_either, put_field, put_opening, put_word};
+use report_lines::{
+    Layout, put_by_layout, put_labelled_number, put_labelled_word, put_report_closing,
+    put_report_opening,
+};
 use std::alloc::{AllocError, Global};
 
 /// The report on a verdict on records: `legal`, or what is wrong and the number that it is wrong with (docs/TEXTS.md).
@@ -18,9 +21,9 @@ pub fn check_text(alloc: Global, layout: Layout, verdict: Verdict) -> Result<Vec
     ensures { IfOk result (λ text. text.items ≡ check_text layout verdict) }
 {
     let mut out = Vec::new(alloc);
-    put_opening(&mut out, layout, b"check")?;
+    put_report_opening(&mut out, layout, b"check")?;
     put_verdict(&mut out, layout, b"verdict", verdict)?;
-    put_closing(&mut out, layout)?;
+    put_report_closing(&mut out, layout)?;
     Ok(out)
 }
 
@@ -35,15 +38,20 @@ pub fn lack_text(
     ensures { IfOk result (λ text. text.items ≡ lack_text layout place core) }
 {
     let mut out = Vec::new(alloc);
-    put_opening(&mut out, layout, b"check")?;
-    put_lacking(&mut out, layout, place, core)?;
-    put_closing(&mut out, layout)?;
+    put_report_opening(&mut out, layout, b"check")?;
+    put_lacking_record(&mut out, layout, place, core)?;
+    put_report_closing(&mut out, layout)?;
     Ok(out)
 }
 
 // That a core lacks a record.
 #[tactic(auto, unfolding(crate::specs::Verdicts::lacking_text))]
-fn put_lacking(out: &mut Vec<u8>, layout: Layout, place: u64, core: u64) -> Result<(), AllocError>
+fn put_lacking_record(
+    out: &mut Vec<u8>,
+    layout: Layout,
+    place: u64,
+    core: u64,
+) -> Result<(), AllocError>
     ensures { OnOk result (out.new.items ≡ out.old.items ++ lacking_text layout place core) }
 {
     match layout {
@@ -66,16 +74,16 @@ fn put_lack_line(out: &mut Vec<u8>, place: u64, core: u64) -> Result<(), AllocEr
     let mut digits = Buffer::new();
     out.extend_from_slice(lack_words())?;
     out.extend_from_slice(digits.format(place).as_bytes())?;
-    put_field(out, Layout::Lines, b" of core", u128::from(core))
+    put_labelled_number(out, Layout::Lines, b" of core", u128::from(core))
 }
 
 #[tactic(auto, unfolding(crate::specs::Verdicts::lacking_text))]
 fn put_lack_members(out: &mut Vec<u8>, place: u64, core: u64) -> Result<(), AllocError>
     ensures { OnOk result (out.new.items ≡ out.old.items ++ lacking_text Json place core) }
 {
-    put_word(out, Layout::Json, b"verdict", b"no record")?;
-    put_field(out, Layout::Json, b"place", u128::from(place))?;
-    put_field(out, Layout::Json, b"core", u128::from(core))
+    put_labelled_word(out, Layout::Json, b"verdict", b"no record")?;
+    put_labelled_number(out, Layout::Json, b"place", u128::from(place))?;
+    put_labelled_number(out, Layout::Json, b"core", u128::from(core))
 }
 
 // A verdict: its line, or its members, the first of them with this label.
@@ -89,8 +97,8 @@ fn put_verdict(
     ensures { OnOk result (out.new.items ≡ out.old.items ++ verdict_text layout label.now verdict) }
 {
     match layout {
-        Layout::Lines => put_line(out, verdict),
-        Layout::Json => put_members(out, label, verdict),
+        Layout::Lines => put_verdict_line(out, verdict),
+        Layout::Json => put_verdict_members(out, label, verdict),
     }
 }
 
@@ -119,17 +127,17 @@ fn wrong_number(verdict: Verdict) -> Option<u64>
     }
 }
 
-fn put_line(out: &mut Vec<u8>, verdict: Verdict) -> Result<(), AllocError>
+fn put_verdict_line(out: &mut Vec<u8>, verdict: Verdict) -> Result<(), AllocError>
     ensures { OnOk result (out.new.items ≡ out.old.items ++ verdict_line verdict) }
 {
     out.extend_from_slice(verdict_name(verdict))?;
-    put_behind(out, wrong_number(verdict))?;
+    put_spaced_number(out, wrong_number(verdict))?;
     out.push(b'\n')?;
     Ok(())
 }
 
 // A number behind a space, if there is one.
-fn put_behind(out: &mut Vec<u8>, number: Option<u64>) -> Result<(), AllocError>
+fn put_spaced_number(out: &mut Vec<u8>, number: Option<u64>) -> Result<(), AllocError>
     ensures { OnOk result (out.new.items ≡ out.old.items ++ spaced_value number) }
 {
     let mut digits = Buffer::new();
@@ -140,31 +148,31 @@ fn put_behind(out: &mut Vec<u8>, number: Option<u64>) -> Result<(), AllocError>
     out.extend_from_slice(digits.format(number).as_bytes())
 }
 
-fn put_members(out: &mut Vec<u8>, label: &[u8], verdict: Verdict) -> Result<(), AllocError>
+fn put_verdict_members(out: &mut Vec<u8>, label: &[u8], verdict: Verdict) -> Result<(), AllocError>
     ensures { OnOk result (out.new.items ≡ out.old.items ++ verdict_members label.now verdict) }
 {
-    put_word(out, Layout::Json, label, verdict_name(verdict))?;
-    put_number(out, wrong_number(verdict))
+    put_labelled_word(out, Layout::Json, label, verdict_name(verdict))?;
+    put_number_member(out, wrong_number(verdict))
 }
 
 // The member of a number, if there is one.
-fn put_number(out: &mut Vec<u8>, number: Option<u64>) -> Result<(), AllocError>
+fn put_number_member(out: &mut Vec<u8>, number: Option<u64>) -> Result<(), AllocError>
     ensures { OnOk result (out.new.items ≡ out.old.items ++ number_member number) }
 {
     match number {
-        Some(number) => put_field(out, Layout::Json, b"number", u128::from(number)),
+        Some(number) => put_labelled_number(out, Layout::Json, b"number", u128::from(number)),
         None => Ok(()),
     }
 }
 
 /// A verdict in the report on a run.
-pub(crate) fn put_order(
+pub(crate) fn put_order_verdict(
     out: &mut Vec<u8>,
     layout: Layout,
     verdict: Verdict,
 ) -> Result<(), AllocError>
     ensures { OnOk result (out.new.items ≡ out.old.items ++ order_text layout verdict) }
 {
-    put_either(out, layout, b"order ", b"")?;
+    put_by_layout(out, layout, b"order ", b"")?;
     put_verdict(out, layout, b"order", verdict)
 }

@@ -18,11 +18,11 @@ level Or = 3
 abbrev pub decreases-expression : goal.decreases-expression
 decreases-expression l = 7 * l.depth + 3 + level l.connective
 
-abbrev pub decreases-next_part : goal.decreases-next_part
-decreases-next_part l = 7 * l.depth + 2 + level l.connective
+abbrev pub decreases-read_next_part : goal.decreases-read_next_part
+decreases-read_next_part l = 7 * l.depth + 2 + level l.connective
 
-abbrev pub decreases-part : goal.decreases-part
-decreases-part l = 7 * l.depth + 1 + level l.connective
+abbrev pub decreases-read_expression_part : goal.decreases-read_expression_part
+decreases-read_expression_part l = 7 * l.depth + 1 + level l.connective
 
 abbrev pub decreases-factor : goal.decreases-factor
 decreases-factor l = 7 * l.depth

@@ -12,8 +12,8 @@ returns-in-Err-clause-refused c =
 pub returns-in-Err-NoMemory-clause-refused : goal.returns-in-Err-NoMemory-clause-refused
 returns-in-Err-NoMemory-clause-refused c = inr (test_of c.in-Ok.test, c.in-Ok.ensures.found)
 
-pub returns-in-Ok-every_text-clause-report : goal.returns-in-Ok-every_text-clause-report
-returns-in-Ok-every_text-clause-report c =
+pub returns-in-Ok-ends_list_text-clause-report : goal.returns-in-Ok-ends_list_text-clause-report
+returns-in-Ok-ends_list_text-clause-report c =
     let listed = c.in-Ok-list_ends.ensures in
     record {
       test = test_of c.in-Ok.test;
@@ -28,9 +28,9 @@ returns-in-Ok-every_text-clause-report c =
         few = listed.few;
         orders = listed.orders;
       };
-      text_is = subst (λ (layout : Layout). c.in-Ok-every_text.text.items
+      text_is = subst (λ (layout : Layout). c.in-Ok-ends_list_text.text.items
           ≡ every_text layout (test_of c.in-Ok.test) c.in-Ok-list_ends.every c.args.options.now.orders)
-          c.layout_of-layout.ensures c.in-Ok-every_text.ensures;
+          c.layout_of-layout.ensures c.in-Ok-ends_list_text.ensures;
       done = refl;
     }
 

@@ -21,10 +21,10 @@ no_verdict opening trace records words (Err e) is refused counted = inr ((words,
 
 pub returns-clause-report : goal.returns-clause-report
 returns-clause-report c =
-    IfOk-weaker c.verdict_on.result _ _ (λ report told. (c.in-Ok.memory, c.in-Ok.ensures.read, told))
-    c.verdict_on.ensures.report
+    IfOk-weaker c.check_sources.result _ _ (λ report told. (c.in-Ok.memory, c.in-Ok.ensures.read, told))
+    c.check_sources.ensures.report
 
 pub returns-clause-refused : goal.returns-clause-refused
 returns-clause-refused c =
-    no_verdict c.args.opening.now c.args.trace.now c.args.records.now c.in-Ok.memory c.verdict_on.result
-    c.in-Ok.ensures.read c.verdict_on.ensures.refused c.verdict_on.ensures.reads
+    no_verdict c.args.opening.now c.args.trace.now c.args.records.now c.in-Ok.memory c.check_sources.result
+    c.in-Ok.ensures.read c.check_sources.ensures.refused c.check_sources.ensures.reads

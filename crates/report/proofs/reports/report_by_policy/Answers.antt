@@ -6,18 +6,18 @@ use Rattle.report.specs.Runs.{IsWatched}
 use Rattle.report.proofs.Told.{told_run}
 use Rattle.report.proofs.reports.report_by_policy.Goals as goal
 
-pub report_on-requires : goal.report_on-requires
-report_on-requires c =
+pub report_on_trace_run-requires : goal.report_on_trace_run-requires
+report_on_trace_run-requires c =
     let is = c.in_ok-ran.ensures.run in
     record { shows = (c.in_ok-ran.ran.machine, refl, is.complete, is.legal_in_trace) }
 
-pub report_on-requires-2 : goal.report_on-requires-2
-report_on-requires-2 c =
+pub report_on_trace_run-requires-2 : goal.report_on_trace_run-requires-2
+report_on_trace_run-requires-2 c =
     let is = c.in_ok-ran-2.ensures.run in
     record { shows = (c.in_ok-ran-2.ran.machine, refl, is.complete, is.legal_in_trace) }
 
-pub returns-then-is_counted : goal.returns-then-is_counted
-returns-then-is_counted c =
+pub returns-then-are_counts_asked : goal.returns-then-are_counts_asked
+returns-then-are_counts_asked c =
     let options = c.args.options.now in
     let lanes = c.args.trace.now in
     let ran = c.in_ok-ran.ran in
@@ -25,17 +25,17 @@ returns-then-is_counted c =
     let last : Counter = c.in_ok-ran.counter.seen in
     let watched = subst (λ (k : Counter). IsWatched counter_events k c.args.policy limit c.args.config lanes ran.end
     ran.machine last) c.in_ok-counter.ensures c.in_ok-ran.ensures.watched in
-    IfOk-weaker c.report_on.result _ _ (λ report told.
+    IfOk-weaker c.report_on_trace_run.result _ _ (λ report told.
     told_run options lanes c.args.config (ByPolicy c.args.policy) limit ran.end ran.machine true (Some last)
     c.requires.good c.requires.config c.requires.policy c.limit_of-limit.ensures.limit
-    (sym c.is_counted.ensures ∙ c.if-is_counted.true) c.in_ok-ran.ensures.run (last, refl, watched) report
-    (told ran.machine refl)) c.report_on.ensures
+    (sym c.are_counts_asked.ensures ∙ c.if-are_counts_asked.true) c.in_ok-ran.ensures.run (last, refl, watched) report
+    (told ran.machine refl)) c.report_on_trace_run.ensures
 
 pub returns : goal.returns
 returns c =
     let ran = c.in_ok-ran-2.ran in
-    IfOk-weaker c.report_on-2.result _ _ (λ report told.
+    IfOk-weaker c.report_on_trace_run-2.result _ _ (λ report told.
     told_run c.args.options.now c.args.trace.now c.args.config (ByPolicy c.args.policy) c.limit_of-limit.result ran.end
     ran.machine false None c.requires.good c.requires.config c.requires.policy c.limit_of-limit.ensures.limit
-    (sym c.is_counted.ensures ∙ c.if-is_counted.false) c.in_ok-ran-2.ensures.run refl report (told ran.machine refl))
-    c.report_on-2.ensures
+    (sym c.are_counts_asked.ensures ∙ c.if-are_counts_asked.false) c.in_ok-ran-2.ensures.run refl report
+    (told ran.machine refl)) c.report_on_trace_run-2.ensures

@@ -16,8 +16,8 @@ uncounted : (b fair : Bool) (every : Option ℕ) (limit : ℕ) (config : Config)
 uncounted false fair every limit config lanes end m = refl
 uncounted true fair every limit config lanes end m = refl
 
-pub report_on-requires : goal.report_on-requires
-report_on-requires g c =
+pub report_on_trace_run-requires : goal.report_on_trace_run-requires
+report_on_trace_run-requires g c =
     let is = c.in_ok-ran.ensures in
     let run = is.1 false in
     record { shows = (machine_of c.in_ok-ran.ran.machine is.0, (is.0, refl), run.complete, run.legal_in_trace) }
@@ -30,9 +30,9 @@ returns g c =
     let parts = c.in_ok-ran.ensures.0 in
     let m = machine_of ran.machine parts in
     let limit = c.limit_of-limit.result in
-    IfOk-weaker c.report_on.result _ _ (λ report told.
+    IfOk-weaker c.report_on_trace_run.result _ _ (λ report told.
     told_run options lanes c.args.config (ByThreads c.args.fair) limit ran.end m (is_counted options) None
     c.requires.good c.requires.config c.requires.threads c.limit_of-limit.ensures.limit refl
     (c.in_ok-ran.ensures.1 (is_counted options))
     (uncounted (is_counted options) c.args.fair options.every limit c.args.config lanes ran.end m) report
-    (told m (parts, refl))) c.report_on.ensures
+    (told m (parts, refl))) c.report_on_trace_run.ensures

@@ -14,10 +14,10 @@ cut {A} r old new before after text is failed =
 
 pub returns-clause-cut_off : goal.returns-clause-cut_off
 returns-clause-cut_off g c = λ failed. (
-  c.in-Ok-report_of.report.all_done,
+  c.in-Ok-report_of_trace.report.all_done,
   (
-    c.in-Ok-report_of.report.text.items,
-    (c.in-Ok.trace, c.in-Ok.ensures.read, c.in-Ok-report_of.ensures.report),
+    c.in-Ok-report_of_trace.report.text.items,
+    (c.in-Ok.trace, c.in-Ok.ensures.read, c.in-Ok-report_of_trace.ensures.report),
     subst (GrowsByFront (g.K.Sink.contents c.args.sink.now) (g.K.Sink.contents c.write_report.new.sink))
         c.deref.ensures.value
         (cut c.write_report.result _ _ _ _ c.deref.result.now c.write_report.ensures.failed failed),

@@ -15,7 +15,7 @@ stream_in_pieces-requires-clause-running g c =
       config = given.0 ∙ c.requires.config;
       driver = c.requires.policy ∙ ap ByPolicy (sym given.1);
       limit = given.2 ∙ c.limit_of-limit.ensures.limit;
-      names = given.3 ∙ c.asks_words-names.ensures;
+      names = given.3 ∙ c.are_words_asked-names.ensures;
     }
 
 pub returns-in_default-clause-telling : goal.returns-in_default-clause-telling

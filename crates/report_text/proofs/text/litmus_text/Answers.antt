@@ -11,14 +11,14 @@ returns c =
     let layout = c.args.layout in
     let test = test_of c.args.test.now in
     let runs = length c.args.runs.now in
-    let opened = c.in_ok-put_opening.ensures
+    let opened = c.in_ok-put_report_opening.ensures
     ∙ ap (λ (t : List ℕ). t ++ opening layout (codes "litmus")) c.new-out.ensures.items in
-    c.in_ok-put_closing.ensures ∙ ap (λ (t : List ℕ). t ++ closing layout)
-    (c.in_ok-put_sums.ensures ∙ ap₂ (λ t sums. t ++ sums_text layout sums)
-    (c.in_ok-put_condition.ensures ∙ ap₂ (λ t endings. t ++ condition_text layout test endings)
-    (c.in_ok-put_states.ensures ∙ ap₂ (λ t states. t ++ states_text layout test states)
-    (c.in_ok-put_ends.ensures ∙ ap₂ (λ t endings. t ++ ends_text layout test runs endings) opened
-    c.endings_of-endings.ensures)
+    c.in_ok-put_report_closing.ensures ∙ ap (λ (t : List ℕ). t ++ closing layout)
+    (c.in_ok-put_sums_over_runs.ensures ∙ ap₂ (λ t sums. t ++ sums_text layout sums)
+    (c.in_ok-put_condition_verdict.ensures ∙ ap₂ (λ t endings. t ++ condition_text layout test endings)
+    (c.in_ok-put_end_states.ensures ∙ ap₂ (λ t states. t ++ states_text layout test states)
+    (c.in_ok-put_run_endings.ensures ∙ ap₂ (λ t endings. t ++ ends_text layout test runs endings) opened
+    c.count_run_endings-endings.ensures)
     c.in_ok-states.ensures)
-    c.endings_of-endings.ensures)
-    c.sums_of.ensures)
+    c.count_run_endings-endings.ensures)
+    c.sum_over_runs.ensures)

@@ -22,6 +22,6 @@ returns c =
     c.cores-cores.ensures.cores c.of-done.ensures in (
       verdict,
       is,
-      c.in_ok-put_closing.ensures
+      c.in_ok-put_report_closing.ensures
           ∙ ap (λ (t : List ℕ). t ++ closing c.args.layout) (c.in_ok-text.ensures ∙ text),
     )

@@ -12,6 +12,6 @@ one-less (s ∷ steps) = omega arith
 pub invariant_of-self : goal.invariant_of-self
 invariant_of-self c = (
   ap (λ (left : ℕ). left - 1) c.self.invariant.0 ∙ one-less (waiting c.self.inside.blocks)
-      ∙ ap (λ (steps : List Step). length steps) (sym (c.take_first.ensures.waiting None)),
-  c.take_first.ensures.turned,
+      ∙ ap (λ (steps : List Step). length steps) (sym (c.take_first_step.ensures.waiting None)),
+  c.take_first_step.ensures.turned,
 )

@@ -13,5 +13,5 @@ loop-at-preserved c =
     let cores = c.cores-cores.ensures in
     let below : at < length queues = omega (arith, test, cores) in
     subst (λ (n : ℕ). ((core : ℕ) → core < at + 1 → n ≤ length (lane queues core)) × HasSteps queues n)
-    (sym (c.min-shortest.ensures ∙ ap (min least) c.left.ensures))
+    (sym (c.min-shortest.ensures ∙ ap (min least) c.steps_left.ensures))
     (least-more queues at least i.0, one-more queues at least below i.1)

@@ -43,7 +43,7 @@ returns-in-Err-clause-fault g c =
     let short = rw c.in-Some.is at l.ensures.short in
     let fields = fields_of c.front.result.now in
     let e : TraceError = record { line = s.number + 1; kind = c.in-Err.kind } in
-    let refused : said_at s.form fields ≡ Err c.in-Err.kind = cc (c.form_and_step.ensures.told, c.in-Err.is) in
+    let refused : said_at s.form fields ≡ Err c.in-Err.kind = cc (c.read_form_and_step.ensures.told, c.in-Err.is) in
     inr (
       l.ensures.none_failed,
       fault-of-line said_at SaysFrom FieldsCause steps-meant s.form fields e (omega arith) refused,
@@ -57,7 +57,7 @@ returns-in-Ok-clause-kept g c =
     let l = c.in_ok-length in
     let short = rw c.in-Some.is at l.ensures.short in
     let told : said_at s.form (fields_of c.front.result.now) ≡ Ok (c.in-Ok.form, c.in-Ok.told) =
-    cc (c.form_and_step.ensures.told, c.in-Ok.is) in
+    cc (c.read_form_and_step.ensures.told, c.in-Ok.is) in
     let t : StepStream = record {
       block = c.remove_line.new.self;
       number = s.number + 1;

@@ -13,7 +13,7 @@ returns-in-Err-clause-fault c told state h =
     let fields = fields_of c.args.line.now in
     let e : TraceError = record { line = c.args.number; kind = c.in-Err.kind } in
     let here : said_at c.args.self.now.form fields ≡ Err c.in-Err.kind =
-    cc (c.form_and_step.ensures.told, c.in-Err.is) in
+    cc (c.read_form_and_step.ensures.told, c.in-Err.is) in
     let refused : said_at state fields ≡ Err c.in-Err.kind = rw h.1 at here in
     inr (fault-of-line said_at SaysFrom FieldsCause steps-meant state fields e c.requires.some refused, refl, refused)
 
@@ -22,7 +22,7 @@ returns-in-Ok-push-clause-added c told state h =
     let fields = fields_of c.args.line.now in
     let s = c.in-Some in
     let here : said_at c.args.self.now.form fields ≡ Ok (c.in-Ok.form, Some (s.core, s.step)) =
-    cc (c.form_and_step.ensures.told, c.in-Ok.is, s.is) in (
+    cc (c.read_form_and_step.ensures.told, c.in-Ok.is, s.is) in (
       c.in-Ok.form,
       Some (s.core, s.step),
       rw h.1 at here,

@@ -6,5 +6,6 @@ use Rattle.ranked_lines.proofs.rising_list.put_in.Goals as goal
 pub returns : goal.returns
 returns c =
     let ys = c.args.numbers.now.items in
-    let at = c.below-at.ensures.count ∙ ap (prefix_len (λ y. ltb y c.args.number)) c.as_slice.ensures.value in
+    let at = c.count_numbers_below-at.ensures.count ∙ ap (prefix_len (λ y. ltb y c.args.number))
+    c.as_slice.ensures.value in
     c.insert.ensures.items ∙ ap (λ n. insert ys n c.args.number) at ∙ inserted c.args.number ys

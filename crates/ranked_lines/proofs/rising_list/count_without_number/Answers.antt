@@ -3,7 +3,7 @@ use Rattle.ranked_lines.specs.Rising.{all_but}
 use Rattle.ranked_lines.proofs.SortedLists.{all_but-none}
 use Rattle.ranked_lines.proofs.RisingEdits.{less, less-most, most}
 use Rattle.ranked_lines.proofs.BlockedLists.{all-above, all-below, but-length, length-all_but}
-use Rattle.ranked_lines.proofs.rising_list.kept.Goals as goal
+use Rattle.ranked_lines.proofs.rising_list.count_without_number.Goals as goal
 
 pub returns-in_default : goal.returns-in_default
 returns-in_default c =
@@ -12,7 +12,7 @@ returns-in_default c =
 
 pub overflow_sub-result : goal.overflow_sub-result
 overflow_sub-result c =
-    let low = c.below.ensures.count in let high = c.up_to.ensures.count in
+    let low = c.count_numbers_below.ensures.count in let high = c.count_numbers_up_to.ensures.count in
     let le = less-most c.in-Some.but c.args.numbers.now in omega (arith, low, high, le)
 
 pub returns-then-numbers-count : goal.returns-then-numbers-count
@@ -28,8 +28,9 @@ returns-then-but-numbers c =
 pub returns : goal.returns
 returns c =
     let ys = c.args.numbers.now in let b = c.in-Some.but in
-    let low = c.below.ensures.count in let high = c.up_to.ensures.count in
-    let same : length ys - (c.up_to.result - c.below.result) ≡ length ys - (most b ys - less b ys) =
+    let low = c.count_numbers_below.ensures.count in let high = c.count_numbers_up_to.ensures.count in
+    let same : length ys - (c.count_numbers_up_to.result - c.count_numbers_below.result) ≡ length ys - (most b ys -
+    less b ys) =
     omega (arith, low, high) in
     same ∙ sym (length-all_but b ys c.requires.rises)
     ∙ sym (ap (λ but. length (all_but but ys)) c.in-Some.is)

@@ -1,6 +1,6 @@
 use Rattle.std.proofs.Common.{sym, ◌∙◌}
 use Rattle.ranked_lines.proofs.BlockedLists.{sized}
-use Rattle.ranked_lines.proofs.blocks.size.Goals as goal
+use Rattle.ranked_lines.proofs.blocks.block_size.Goals as goal
 
 pub returns-clause-count : goal.returns-clause-count
 returns-clause-count c =

@@ -1,7 +1,7 @@
 use Rattle.std.proofs.Common.{◌+◌, ◌/◌, arith}
 use Rattle.ranked_lines.proofs.RisingEdits.{at-from, at-less}
-use Rattle.ranked_lines.proofs.search.narrowed.Goals.{then-numbers-middle, else-numbers-middle}
-use Rattle.ranked_lines.proofs.search.narrowed.Goals as goal
+use Rattle.ranked_lines.proofs.search.halve_searched_part.Goals.{then-numbers-middle, else-numbers-middle}
+use Rattle.ranked_lines.proofs.search.halve_searched_part.Goals as goal
 
 pub returns-clause-from : goal.returns-clause-from
 returns-clause-from c = elim c.if-numbers-middle.branch [

@@ -1,7 +1,7 @@
 use Rattle.std.proofs.Common.{◌≡◌, drop, slice_get}
 use Rattle.ranked_lines.specs.Rising.{all_but}
 use Rattle.ranked_lines.specs.Blocked.{joined}
-use Rattle.ranked_lines.proofs.blocks.nth_within.Given as goal
+use Rattle.ranked_lines.proofs.blocks.nth_number_in_blocks.Given as goal
 
 abbrev pub invariant-loop-block : goal.invariant-loop-block
 invariant-loop-block l =

@@ -3,7 +3,7 @@ use Rattle.ranked_lines.specs.Rising.{all_but}
 use Rattle.ranked_lines.proofs.SortedLists.{all_but-none}
 use Rattle.ranked_lines.proofs.RisingEdits.{at-from, at-less, before-but, from-but, less, less-most, most}
 use Rattle.ranked_lines.proofs.BlockedLists.{length-all_but, most-length}
-use Rattle.ranked_lines.proofs.rising_list.index_but.Goals as goal
+use Rattle.ranked_lines.proofs.rising_list.index_without_number.Goals as goal
 
 pub returns-in_default-clause-number : goal.returns-in_default-clause-number
 returns-in_default-clause-number c =

@@ -1,7 +1,7 @@
 use Rattle.std.proofs.Common.{leb, rules, ◌∙◌}
 use Rattle.std.proofs.lemmas.List.Sorted.{IsPartitionPoint-from_clause, IsPartitionedBy-leb}
 use Rattle.ranked_lines.proofs.RisingEdits.{less-next, ordered, searched-to}
-use Rattle.ranked_lines.proofs.search.up_to.Goals as goal
+use Rattle.ranked_lines.proofs.search.count_numbers_up_to.Goals as goal
 
 pub returns-then-number-clause-count : goal.returns-then-number-clause-count
 returns-then-number-clause-count c =
@@ -11,4 +11,4 @@ returns-then-number-clause-count c =
     (λ a r q k. search rules))
 
 pub returns-clause-count : goal.returns-clause-count
-returns-clause-count c = c.below.ensures.count ∙ less-next c.args.number c.args.numbers.now
+returns-clause-count c = c.count_numbers_below.ensures.count ∙ less-next c.args.number c.args.numbers.now

@@ -1,6 +1,6 @@
 use Rattle.std.proofs.Common.{arith, refl}
 use Rattle.ranked_lines.proofs.BlockedLists.{block-rises, placed, placed-filled, placed-dense, sized}
-use Rattle.ranked_lines.proofs.blocks.put_at.Goals as goal
+use Rattle.ranked_lines.proofs.blocks.put_number_in_block.Goals as goal
 
 pub put_in-requires-clause-rises : goal.put_in-requires-clause-rises
 put_in-requires-clause-rises c = block-rises c.args.blocks.now.items c.args.at c.index_mut.result.now _

@@ -1,7 +1,7 @@
 use Rattle.std.proofs.Common.{arith}
 use Rattle.std.proofs.lemmas.Bool.{lt-ltb}
 use Rattle.ranked_lines.proofs.BlockNeighbours.{few-blocks}
-use Rattle.ranked_lines.proofs.blocks.has_room.Goals as goal
+use Rattle.ranked_lines.proofs.blocks.has_room_for_block.Goals as goal
 
 pub returns-clause-sure : goal.returns-clause-sure
 returns-clause-sure c = λ room.

@@ -221,7 +221,7 @@ impl<H: History> System<H> {
         let mut answers = Vec::with_capacity(self.state.allocator(), events.len())?;
         for event in events {
             let answer = self.step(*event);
-            add(&mut answers, answer);
+            add_answer(&mut answers, answer);
         }
         Ok(answers)
     }
@@ -543,7 +543,7 @@ impl<H: History> System<H> {
 }
 
 // An answer is added for which there is a place.
-fn add(answers: &mut Vec<Answer>, answer: Answer)
+fn add_answer(answers: &mut Vec<Answer>, answer: Answer)
     requires { length answers.old.items < vec_capacity answers.old }
     ensures items { answers.new.items ≡ answers.old.items ++ answer ∷ [] }
     ensures capacity { vec_capacity answers.new ≡ vec_capacity answers.old }

@@ -81,12 +81,12 @@ returns-in-Core-clause-fitted c m room is =
     c.deliver_to_core.new.masks c.deliver_to_core.ensures.set_up (omega (arith, same, is.fits.reserved))
     (c.deliver_to_core.ensures.masked cores here open_kept is.fits.masked)
 
-pub returns-in-Some-held_request-clause-done : goal.returns-in-Some-held_request-clause-done
-returns-in-Some-held_request-clause-done c m room is =
+pub returns-in-Some-held_request_awaits_line-clause-done : goal.returns-in-Some-held_request_awaits_line-clause-done
+returns-in-Some-held_request_awaits_line-clause-done c m room is =
     let result : Result PlainAnswer (Unit {0}) = Ok Held in
     let part = c.index_mut-bank.result.now in
     let old = c.args.flight.now in
-    let stays = c.held_request.ensures.held (ap is_some c.in-Some-held_request.is) in
+    let stays = c.held_request_awaits_line.ensures.held (ap is_some c.in-Some-held_request_awaits_line.is) in
     delivered is.are is.kept c.args.number c.in-Some.ensures.value (bank_place _ c.in-Bank.bank)
     c.in-Bank.is c.index_mut-bank.ensures.value is.fits.capacity_is result part c.seek.new.self.mail
     c.args.is_stopped.now
@@ -97,8 +97,8 @@ returns-in-Some-held_request-clause-done c m room is =
     ∙ ap (λ (r : Option (Reaction × BankState)). applied old.capacity part old.mail (Some c.args.number)
     (reacted r)) (sym stays))) refl
 
-pub returns-in-Some-held_request-clause-told : goal.returns-in-Some-held_request-clause-told
-returns-in-Some-held_request-clause-told c m room is = λ told.
+pub returns-in-Some-held_request_awaits_line-clause-told : goal.returns-in-Some-held_request_awaits_line-clause-told
+returns-in-Some-held_request_awaits_line-clause-told c m room is = λ told.
     let part = c.index_mut-bank.result.now in
     let banks = c.args.banks.now.items in
     let here = part_here is.are is.kept c.args.number c.in-Some.ensures.value (bank_place _ c.in-Bank.bank)
@@ -107,10 +107,11 @@ returns-in-Some-held_request-clause-told c m room is = λ told.
     c.seek.new.self.mail c.args.is_stopped.now) c.args.number
     (c.in-Some.ensures.value ∙ ap (λ (f : Flight). at_number c.args.number f.mail.messages) (sym c.seek.ensures))
     c.in-Bank.bank c.in-Bank.is (get-set_same banks c.in-Bank.bank part part here)
-    (of_there _ (sym c.in-Some-held_request.is) c.held_request.ensures.there told)
+    (of_there _ (sym c.in-Some-held_request_awaits_line.is) c.held_request_awaits_line.ensures.there told)
 
-pub returns-in_default-held_request-clause-done : goal.returns-in_default-held_request-clause-done
-returns-in_default-held_request-clause-done c m room is =
+pub returns-in_default-held_request_awaits_line-clause-done :
+    goal.returns-in_default-held_request_awaits_line-clause-done
+returns-in_default-held_request_awaits_line-clause-done c m room is =
     let result : Result PlainAnswer (Unit {0}) = Ok c.deliver_to_bank.result in
     delivered is.are is.kept c.args.number c.in-Some.ensures.value (bank_place _ c.in-Bank.bank)
     c.in-Bank.is c.index_mut-bank.ensures.value is.fits.capacity_is result _ _ _
@@ -120,20 +121,20 @@ pub returns-in-Dram-clause-done : goal.returns-in-Dram-clause-done
 returns-in-Dram-clause-done c m room is =
     delivered is.are is.kept c.args.number c.in-Some.ensures.value (dram_place _ c.in-Dram.bank)
     c.in-Dram.is c.index_mut-dram.ensures.value is.fits.capacity_is _ _ _ _
-    c.deliver_to.ensures.done c.deliver_to.ensures.stop
+    c.deliver_to_part.ensures.done c.deliver_to_part.ensures.stop
 
 pub returns-in-Dram-clause-wanted : goal.returns-in-Dram-clause-wanted
 returns-in-Dram-clause-wanted c m room is =
     delivery_wanted is.are is.kept c.args.number c.in-Some.ensures.value (dram_place _ c.in-Dram.bank)
-    c.in-Dram.is c.index_mut-dram.ensures.value is.fits.capacity_is c.deliver_to.result
-    c.deliver_to.ensures.memory
+    c.in-Dram.is c.index_mut-dram.ensures.value is.fits.capacity_is c.deliver_to_part.result
+    c.deliver_to_part.ensures.memory
 
 pub returns-in-Dram-clause-store : goal.returns-in-Dram-clause-store
 returns-in-Dram-clause-store c m room is =
     dram_asks is.are c.args.number c.in-Some.ensures.value c.in-Dram.bank c.in-Dram.is
     (part_here is.are is.kept c.args.number c.in-Some.ensures.value (dram_place _ c.in-Dram.bank)
     c.in-Dram.is c.index_mut-dram.ensures.value)
-    c.deliver_to.result c.deliver_to.ensures.sure
+    c.deliver_to_part.result c.deliver_to_part.ensures.sure
 
 pub returns-in_default-clause-waits : goal.returns-in_default-clause-waits
 returns-in_default-clause-waits c m room is =
@@ -147,16 +148,18 @@ pub returns-in-Dram-clause-waits : goal.returns-in-Dram-clause-waits
 returns-in-Dram-clause-waits c m room is =
     c.requires.not_yet ∙ sym (waits_where is.are c.args.number c.in-Some.ensures.value c.in-Dram.is)
 
-pub returns-in-Some-held_request-clause-waits : goal.returns-in-Some-held_request-clause-waits
-returns-in-Some-held_request-clause-waits c m room is =
+pub returns-in-Some-held_request_awaits_line-clause-waits : goal.returns-in-Some-held_request_awaits_line-clause-waits
+returns-in-Some-held_request_awaits_line-clause-waits c m room is =
     let here = part_here is.are is.kept c.args.number c.in-Some.ensures.value (bank_place _ c.in-Bank.bank)
     c.in-Bank.is c.index_mut-bank.ensures.value in
     sym (waits_at_bank is.are c.args.number c.in-Some.ensures.value c.in-Bank.is here
-    ∙ sym c.held_request.ensures.value ∙ ap (λ o. unwrap_or o false) c.in-Some-held_request.is)
+    ∙ sym c.held_request_awaits_line.ensures.value ∙ ap (λ o. unwrap_or o false) c.in-Some-held_request_awaits_line.is)
 
-pub returns-in_default-held_request-clause-waits : goal.returns-in_default-held_request-clause-waits
-returns-in_default-held_request-clause-waits c m room is =
+pub returns-in_default-held_request_awaits_line-clause-waits :
+    goal.returns-in_default-held_request_awaits_line-clause-waits
+returns-in_default-held_request_awaits_line-clause-waits c m room is =
     let here = part_here is.are is.kept c.args.number c.in-Some.ensures.value (bank_place _ c.in-Bank.bank)
     c.in-Bank.is c.index_mut-bank.ensures.value in
     c.requires.not_yet ∙ sym (waits_at_bank is.are c.args.number c.in-Some.ensures.value c.in-Bank.is here
-    ∙ sym c.held_request.ensures.value ∙ ap (λ o. unwrap_or o false) c.in_default-held_request.is)
+    ∙ sym c.held_request_awaits_line.ensures.value ∙ ap (λ o. unwrap_or o false)
+    c.in_default-held_request_awaits_line.is)

@@ -1,6 +1,6 @@
 use Rattle.std.proofs.Common.{◌&&◌, Bool, cond, not, ap, ◌∙◌}
 use Rattle.interleaving_core.proofs.MaskedCores.{trying_noted}
-use Rattle.interleaving_core.proofs.core_masks.note_delivery.Goals as goal
+use Rattle.interleaving_core.proofs.core_masks.update_masks_after_delivery.Goals as goal
 
 pub returns : goal.returns
 returns c cores old here same are =

@@ -1,5 +1,5 @@
 use Rattle.std.proofs.Common.{◌≡◌, [], length, replicate, take}
-use Rattle.interleaving_core.proofs.histories.clear_operations.Given as goal
+use Rattle.interleaving_core.proofs.histories.clear_op_lists.Given as goal
 
 -- so many are empty
 abbrev pub invariant-loop-at : goal.invariant-loop-at

@@ -1,6 +1,6 @@
 use Rattle.std.proofs.Common.{◌&&◌, Bool, cond, not, ap, ◌∙◌}
 use Rattle.interleaving_core.proofs.MaskedCores.{masks_noted}
-use Rattle.interleaving_core.proofs.core_masks.note.Goals as goal
+use Rattle.interleaving_core.proofs.core_masks.update_core_masks.Goals as goal
 
 pub returns : goal.returns
 returns c cores old here are =

@@ -5,7 +5,7 @@ use Rattle.core_pts.specs.CoreTable.{CoreState}
 use Rattle.machine_table.specs.declared.event.Answer.{Answer}
 use Rattle.interleaving_core.specs.PartChanges.{StandsAfter}
 use Rattle.interleaving_core.proofs.MaskedCores.{masks_noted, none_out, still_masked, stands_same, trying_noted}
-use Rattle.interleaving_core.proofs.core_masks.note_attempt.Goals as goal
+use Rattle.interleaving_core.proofs.core_masks.update_masks_after_attempt.Goals as goal
 
 pub returns-in-Completed : goal.returns-in-Completed
 returns-in-Completed c cores old core here stands are =

@@ -71,7 +71,7 @@ impl Rows {
 
     /// The place of a line in the row of its set.
     #[inline(always)]
-    fn place_of<V>(&self, arena: &Arena<(u64, V)>, set: usize, line: u64) -> Option<usize>
+    fn index_of_line<V>(&self, arena: &Arena<(u64, V)>, set: usize, line: u64) -> Option<usize>
         requires in_table { set < length self.now }
         requires many { length self.now ≡ length arena.now.lists }
         requires fits { AreRows self.now arena.now.lists }
@@ -79,7 +79,7 @@ impl Rows {
     {
         looked_up::<(u64, V)>();
         let _lists = arena.lists();
-        self.rows[set].place_of(arena, line)
+        self.rows[set].index_of_line(arena, line)
     }
 
     /// The cell of a line in a set.
@@ -90,7 +90,7 @@ impl Rows {
         requires fits { AreRows self.now arena.now.lists }
         ensures { result ≡ find (tags_of (get_or arena.now.lists set [])) line }
     {
-        match self.place_of(arena, set, line) {
+        match self.index_of_line(arena, set, line) {
             None => None,
             Some(at) => Some(self.rows[set].cells[at] as u32),
         }
@@ -122,11 +122,11 @@ impl Rows {
         ensures absent { result ≡ None → self.new ≡ self.old }
         ensures cut { IfSome result (λ cell. IsCut self.old set cell self.new) }
     {
-        let Some(at) = self.place_of(arena, set, line) else {
+        let Some(at) = self.index_of_line(arena, set, line) else {
             return None;
         };
         let cell = self.rows[set].cells[at] as u32;
-        self.rows[set].free(at);
+        self.rows[set].take_line_out(at);
         Some(cell)
     }
 }

@@ -9,7 +9,10 @@ ghost use Rattle.ranked_lines.specs.Rising.{all_but, sorted};
 ghost use Rattle.line_sets.specs.SetTable.{all_listed, drop_line, empty_sets, has_place, has_room, look, put};
 ghost use Rattle.line_sets.specs.SetTable.{put_within, set_at};
 
-use crate::listed::{LineTest, Listed, count_of, line_numbers, number_of, recount, uncount_of};
+use crate::listed::{
+    LineTest, Listed, count_if_listed, count_if_unlisted, line_numbers, number_of_line,
+    update_set_count,
+};
 use crate::rows::Rows;
 use line_arena::laws::{looked_up, taken_off};
 use line_arena::{Arena, ArenaError, Cell};
@@ -191,10 +194,15 @@ impl<V: Copy + Listed> LineSets<V> {
             return;
         };
         let old = &self.arena.get(Cell(cell)).1;
-        let before = count_of(old);
-        let after = count_of(&value);
+        let before = count_if_listed(old);
+        let after = count_if_listed(&value);
         self.listed = self.listed - before + after;
-        recount(&mut self.unlisted, set, uncount_of(old), uncount_of(&value));
+        update_set_count(
+            &mut self.unlisted,
+            set,
+            count_if_unlisted(old),
+            count_if_unlisted(&value),
+        );
         self.order.change(line, before, after);
         *self.arena.get_mut(Cell(cell)) = (line, value);
         if self.arena.next(Cell(cell)).is_none() {
@@ -216,9 +224,9 @@ impl<V: Copy + Listed> LineSets<V> {
         let cell = pushed.unwrap();
         let _lists = self.arena.lists();
         self.rows.push(set, line, cell.0);
-        let after = count_of(&value);
+        let after = count_if_listed(&value);
         self.listed += after;
-        recount(&mut self.unlisted, set, 0, uncount_of(&value));
+        update_set_count(&mut self.unlisted, set, 0, count_if_unlisted(&value));
         self.order.change(line, 0, after);
     }
 
@@ -233,10 +241,15 @@ impl<V: Copy + Listed> LineSets<V> {
         let _lists = self.arena.lists();
         if let Some(cell) = self.rows.find(&self.arena, set, line) {
             let old = &self.arena.get(Cell(cell)).1;
-            let before = count_of(old);
-            let after = count_of(&value);
+            let before = count_if_listed(old);
+            let after = count_if_listed(&value);
             self.listed = self.listed - before + after;
-            recount(&mut self.unlisted, set, uncount_of(old), uncount_of(&value));
+            update_set_count(
+                &mut self.unlisted,
+                set,
+                count_if_unlisted(old),
+                count_if_unlisted(&value),
+            );
             self.order.change(line, before, after);
             *self.arena.get_mut(Cell(cell)) = (line, value);
         }
@@ -257,9 +270,9 @@ impl<V: Copy + Listed> LineSets<V> {
             return None;
         };
         let (_line, value) = self.arena.unlink(Cell(cell));
-        let before = count_of(&value);
+        let before = count_if_listed(&value);
         self.listed -= before;
-        recount(&mut self.unlisted, set, uncount_of(&value), 0);
+        update_set_count(&mut self.unlisted, set, count_if_unlisted(&value), 0);
         self.order.change(line, before, 0);
         Some(value)
     }
@@ -288,7 +301,7 @@ impl<V: Copy + Listed> LineSets<V> {
         ensures { IfOk result (λ line. slice_get (sorted (all_but but
             (all_listed V.is_listed self.now.sets))) at ≡ Some line) }
     {
-        let but = number_of(but);
+        let but = number_of_line(but);
         if let Some(line) = self.order.nth(&but, at) {
             return Ok(LineNo(line));
         }

@@ -14,6 +14,6 @@ returns-clause-cut g c =
         low = c.in-Some.ensures.0;
         is = ap (λ r. get_or r.cells at 0) (sym row);
       };
-      is = ap (λ us. set us c.args.set c.free.new.self) c.self.view_is
-          ∙ ap (set now c.args.set) (c.free.ensures ∙ ap (freed at) was);
+      is = ap (λ us. set us c.args.set c.take_line_out.new.self) c.self.view_is
+          ∙ ap (set now c.args.set) (c.take_line_out.ensures ∙ ap (freed at) was);
     }

@@ -4,7 +4,7 @@ use Rattle.core_pts.specs.contracts.core_state.Core.{the_view}
 use Rattle.core_pts.specs.CoreTable.{pinned_line}
 use Rattle.core_pts.specs.OpenCopy.{has_open_copy}
 use Rattle.core_pts.proofs.OpenCopies.{open-changed, open-gone, taken-out}
-use Rattle.core_pts.proofs.core_state.Core.keep_copy.Goals as goal
+use Rattle.core_pts.proofs.core_state.Core.change_or_drop_copy.Goals as goal
 
 pub invariant_of-self : goal.invariant_of-self
 invariant_of-self c =

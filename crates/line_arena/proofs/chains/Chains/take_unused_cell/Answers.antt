@@ -1,7 +1,7 @@
 use Rattle.std.proofs.Common.{None, refl, ap, ◌∙◌, arith}
 use Rattle.line_arena.specs.Rings.{node, rings}
 use Rattle.line_arena.proofs.EmptiedCells.{set_none, placed}
-use Rattle.line_arena.proofs.chains.Chains.unused.Goals as goal
+use Rattle.line_arena.proofs.chains.Chains.take_unused_cell.Goals as goal
 
 pub returns : goal.returns
 returns g c =

@@ -1,6 +1,6 @@
 use Rattle.std.proofs.Common.{Some, sym, ap, ◌∙◌}
 use Rattle.line_arena.specs.Rings.{node, or_blank}
-use Rattle.line_arena.proofs.chains.Chains.position.Goals as goal
+use Rattle.line_arena.proofs.chains.Chains.position_of_cell.Goals as goal
 
 pub returns : goal.returns
 returns g c =

@@ -1,7 +1,7 @@
 use Rattle.std.proofs.Common.{length, refl, ap, ◌∙◌}
 use Rattle.line_arena.specs.Rings.{or_blank}
 use Rattle.line_arena.proofs.FreeCells.{reused, spare_first}
-use Rattle.line_arena.proofs.chains.Chains.reuse.Goals as goal
+use Rattle.line_arena.proofs.chains.Chains.take_used_free_cell.Goals as goal
 
 pub next-self-requires : goal.next-self-requires
 next-self-requires g c =

@@ -7,10 +7,10 @@ use Rattle.line_arena.specs.declared.node.Head.{Head}
 use Rattle.line_arena.specs.Rings.{no_head, node, at, with_next, edit}
 use Rattle.line_arena.specs.Filled.{IsFilled}
 use Rattle.line_arena.proofs.Moves.{attach_made, last_near, edit_filled, Kept, kept_set, kept_edit}
-use Rattle.line_arena.proofs.chains.Chains.hook.Goals as goal
+use Rattle.line_arena.proofs.chains.Chains.link_node_at_end.Goals as goal
 
-pub set_next-requires : goal.set_next-requires
-set_next-requires g c =
+pub set_next_cell-requires : goal.set_next_cell-requires
+set_next_cell-requires g c =
     let s = c.args.self.now in let t = c.requires.tied.tied in let h = c.index_mut-head.result.now in let x =
     c.args.cell in
     let l = c.args.list in
@@ -19,7 +19,7 @@ set_next-requires g c =
     let free = get_or-set_same s.block x None None (omega (arith, c.requires.cell.0, long, cells)) in
     let is = get_or_read s.heads.items l h c.requires.list c.index_mut-head.ensures.value no_head in
     λ low. let near = last_near (set s.block x None) s.capacity s.heads.items t l x h n c.requires.list free is low in
-    subst (λ cs. IsFilled cs h.last) (sym (c.set_links.ensures ∙ sym (set-set s.block x None (Some n))))
+    subst (λ cs. IsFilled cs h.last) (sym (c.set_cell_links.ensures ∙ sym (set-set s.block x None (Some n))))
     (near.0, near.1)
 
 pub returns : goal.returns
@@ -32,12 +32,13 @@ returns g c =
     let long1 = length-set s.block x None in let long : length put ≡ cap = length-set gone x (Some n) ∙ many in
     let free = get_or-set_same s.block x None None (omega (arith, c.requires.cell.0, long1, many)) in
     let is = get_or_read hs l h low c.index_mut-head.ensures.value no_head in
-    let q = c.set_next.new.head in let head = c.set_next.ensures.head in
+    let q = c.set_next_cell.new.head in let head = c.set_next_cell.ensures.head in
     let new = record q { last = x; count = q.count + 1 } in
     let lists = length-set hs l new in
-    let cells = c.set_next.ensures.block ∙ ap (λ cs. edit cap (with_next x) cs h.last) (c.set_links.ensures
+    let cells = c.set_next_cell.ensures.block ∙ ap (λ cs. edit cap (with_next x) cs h.last) (c.set_cell_links.ensures
     ∙ sym (set-set s.block x None (Some n))) in
-    let made = attach_made gone cap hs t l x it h q c.set_next.new.block low c.requires.cell.0 free is head cells in
+    let made = attach_made gone cap hs t l x it h q c.set_next_cell.new.block low c.requires.cell.0 free is head cells
+    in
     record {
       tied = record {
         tied = made.0;

@@ -1,6 +1,6 @@
 use Rattle.std.proofs.Common.{arith, true≢false, refl}
 use Rattle.line_arena.proofs.Counts.{counted}
-use Rattle.line_arena.proofs.chains.Chains.take_free.Goals as goal
+use Rattle.line_arena.proofs.chains.Chains.take_free_cell.Goals as goal
 
 pub returns-then-self-gt0-clause-full : goal.returns-then-self-gt0-clause-full
 returns-then-self-gt0-clause-full g c =

@@ -138,7 +138,7 @@ fn deliver_to_core(
 /// was. Where `waits` is set the message is held, and no line need leave for it. What this calls takes the part alone,
 /// so that a program has it once: of what is generic over the history each crate that names a machine has its own copy.
 #[inline(always)]
-pub(crate) fn deliver(
+pub(crate) fn deliver_message(
     flight: &mut InFlight,
     number: MsgNo,
     cores: &mut Vec<Core>,

@@ -7,7 +7,7 @@ ghost use Rattle.interleaving_core.specs.PartChanges.{answer_in, answer_of};
 ghost use Rattle.interleaving_core.specs.StepAnswers.{Stepped, TakesMemory, asks_memory};
 
 use crate::core_masks::{update_core_masks, update_masks_after_attempt};
-use crate::deliveries::deliver;
+use crate::deliveries::deliver_message;
 use crate::histories::History;
 use crate::machine_state::MachineState;
 use crate::operations;
@@ -129,7 +129,7 @@ impl<H: History> MachineState<H> {
         ensures waits { waits.new ≡ message_waits self.old number }
         ensures told { IsTrue waits.new → make_room self.new number ≡ None }
     {
-        deliver(
+        deliver_message(
             &mut self.flight,
             number,
             &mut self.cores,
@@ -202,7 +202,7 @@ impl<H: History> MachineState<H> {
 
     // What the table answers to an event, if there is memory for it.
     #[inline(always)]
-    fn answer(&mut self, event: Event) -> Result<Option<PlainAnswer>, AllocError>
+    fn answer_event(&mut self, event: Event) -> Result<Option<PlainAnswer>, AllocError>
         requires { Invariant self.old }
         ensures done { IfOk result (λ plain. (answer_in self.new.records plain, self.new) ≡
             transition self.old event) }
@@ -235,7 +235,7 @@ impl<H: History> MachineState<H> {
             IsTrue (asks_memory self.old event) }
         ensures completed { result ≡ None → 0 < length self.new.records }
     {
-        match self.answer(event) {
+        match self.answer_event(event) {
             Ok(plain) => plain,
             Err(AllocError) => Some(PlainAnswer::Refused(Refusal::NoMemory)),
         }

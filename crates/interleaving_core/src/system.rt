@@ -491,7 +491,7 @@ impl<H: History> System<H> {
     pub fn look(&self, number: MsgNo) -> Option<&Message>
         ensures { option_copied result ≡ at_number number self.now.mail.messages }
     {
-        self.state.look(number)
+        self.state.message_in_flight(number)
     }
 
     /// How many messages are in flight.

@@ -278,7 +278,7 @@ impl<V: Copy + Listed> LineSets<V> {
     }
 
     /// How many lines of all sets have a value that is listed. No set has a line twice.
-    pub fn listed(&self) -> usize
+    pub fn count_listed_lines(&self) -> usize
         ensures count { result ≡ length (all_listed V.is_listed self.now.sets) }
         ensures once { (set : ℕ) → IsDistinct (set_at self.now.sets set) }
     {
@@ -305,7 +305,7 @@ impl<V: Copy + Listed> LineSets<V> {
         if let Some(line) = self.order.nth(&but, at) {
             return Ok(LineNo(line));
         }
-        let mut numbers = self.gathered()?;
+        let mut numbers = self.gather_listed_lines()?;
         leave_out(&mut numbers, &but);
         Ok(LineNo(number_at(&mut numbers, at)))
     }
@@ -323,7 +323,7 @@ impl<V: Copy + Listed> LineSets<V> {
         if self.resume_order()? {
             return Ok(());
         }
-        let numbers = self.numbers()?;
+        let numbers = self.listed_line_numbers()?;
         let most = self.sets() * self.ways;
         let order = RankedLines::of(self.rows.allocator(), &numbers, most)?;
         self.order = order;
@@ -334,7 +334,7 @@ impl<V: Copy + Listed> LineSets<V> {
     fn resume_order(&mut self) -> Result<bool, AllocError>
         ensures { self.new ≡ self.old }
     {
-        let lines = self.gathered()?;
+        let lines = self.gather_listed_lines()?;
         let most = self.sets() * self.ways;
         Ok(self.order.resume(&lines, most))
     }
@@ -359,23 +359,23 @@ impl<V: Copy + Listed> LineSets<V> {
         ensures { IfOk result (λ lines.
             lines.items ≡ sorted (all_listed V.is_listed self.now.sets)) }
     {
-        let numbers = self.numbers()?;
+        let numbers = self.listed_line_numbers()?;
         line_numbers(numbers)
     }
 
     // The numbers of these lines, rising.
-    fn numbers(&self) -> Result<Vec<u64>, AllocError>
+    fn listed_line_numbers(&self) -> Result<Vec<u64>, AllocError>
         ensures { IfOk result (λ lines.
             lines.items ≡ sorted (all_listed V.is_listed self.now.sets)) }
     {
         sorted_is_unique();
-        let mut lines = self.gathered()?;
+        let mut lines = self.gather_listed_lines()?;
         lines.sort_unstable();
         Ok(lines)
     }
 
     // The listed lines of all sets, set by set. The sets after the last listed line aren't looked at.
-    fn gathered(&self) -> Result<Vec<u64>, AllocError>
+    fn gather_listed_lines(&self) -> Result<Vec<u64>, AllocError>
         ensures { IfOk result (λ lines. lines.items ≡ all_listed V.is_listed self.now.sets) }
     {
         let mut lines = Vec::new(self.rows.allocator());
@@ -383,13 +383,13 @@ impl<V: Copy + Listed> LineSets<V> {
             if lines.len() == self.listed {
                 return Ok(lines);
             }
-            self.push_listed(&mut lines, set)?;
+            self.push_listed_lines_of_set(&mut lines, set)?;
         }
         Ok(lines)
     }
 
     // Adds the listed lines of a set, in their order.
-    fn push_listed(&self, lines: &mut Vec<u64>, set: usize) -> Result<(), AllocError>
+    fn push_listed_lines_of_set(&self, lines: &mut Vec<u64>, set: usize) -> Result<(), AllocError>
         requires { set < length self.now.sets }
         ensures { OnOk result (lines.new.items ≡ lines.old.items ++
             lines_passing V.is_listed (set_at self.now.sets set)) }

@@ -366,7 +366,7 @@ impl Bank {
     pub fn settled(&self) -> usize
         ensures { result ≡ length (all_listed is_settled self.now.table.sets) }
     {
-        self.table.listed()
+        self.table.count_listed_lines()
     }
 
     /// The line at an index of those that are Shared or Exclusive, in rising order.

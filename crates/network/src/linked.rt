@@ -64,7 +64,7 @@ fn wanted_message_in_slot<'a>(
 {
     let cell = slot.1?;
     let message = &arena.get(Cell(cell)).1;
-    if wanted.fits(message) {
+    if wanted.wants_message(message) {
         Some(message)
     } else {
         None
@@ -123,7 +123,7 @@ fn first_wanted_on_link<'a>(
             return None;
         };
         let entry = arena.get(cell);
-        if wanted.fits(&entry.1) {
+        if wanted.wants_message(&entry.1) {
             return Some((entry.0, &entry.1));
         }
         next = arena.next(cell);
@@ -337,7 +337,7 @@ impl LinkedMessages {
     }
 
     /// The first message that the search looks for.
-    pub(crate) fn first(&self, wanted: &Wanted) -> Option<&Message>
+    pub(crate) fn first_wanted(&self, wanted: &Wanted) -> Option<&Message>
         ensures { option_copied result ≡ option_map (λ x. x.1)
             (first_message (is_wanted wanted.now) self.now.messages) }
     {
@@ -363,7 +363,7 @@ impl LinkedMessages {
     }
 
     /// How many messages the search looks for.
-    pub(crate) fn count_of(&self, wanted: &Wanted) -> usize
+    pub(crate) fn count_wanted(&self, wanted: &Wanted) -> usize
         ensures { result ≡ count_messages (is_wanted wanted.now) self.now.messages }
     {
         count_wanted_messages(&self.arena, &self.slots, wanted)

@@ -28,8 +28,11 @@ returns-in-Ok-NeedExclusive-clause-done c =
     let is = sym c.attempt.ensures ∙ ap (λ r. (r, c.attempt.new.self)) (ap result_ok c.in-Ok-NeedExclusive.is
     ∙ ap Some c.in-Ok-NeedExclusive.field-0-is) in
     let kept = c.nothing_completed_keeps.ensures c.args.core.now c.attempt.new.self _ is refl in
-    ap (λ (a : Answer). (a, c.send_core_request-in-Ok-NeedExclusive.new.core,
-    c.send_core_request-in-Ok-NeedExclusive.new.flight.mail))
+    ap (λ (a : Answer). (
+      a,
+      c.send_core_request-in-Ok-NeedExclusive.new.core,
+      c.send_core_request-in-Ok-NeedExclusive.new.flight.mail,
+    ))
     c.answer_after_request-in-Ok-NeedExclusive.ensures
     ∙ subst (λ (x : Answer × CoreState × Mail). (
       request_answer c.send_core_request-in-Ok-NeedExclusive.result,

@@ -10,12 +10,12 @@ get-entry-requires c =
     c.lists-lists.ensures.once (sym c.loop.invariant.0 ∙ c.in-Some.is) in
     ap is_some met.cell
 
-pub returns-then-fits : goal.returns-then-fits
-returns-then-fits c =
+pub returns-then-wants_message : goal.returns-then-wants_message
+returns-then-wants_message c =
     let met = c.looked_up.ensures.met c.args.arena.now.lists c.args.list c.loop.counter c.in-Some.cell
     c.lists-lists.ensures.once (sym c.loop.invariant.0 ∙ c.in-Some.is) in
     sym (c.loop.invariant.1 ∙ first-passes (is_wanted c.args.wanted.now) _ _ _ met.value c.get-entry.result.now met.is
-    (sym c.get-entry.ensures ∙ met.cell) (sym c.fits.ensures ∙ c.if-fits.true))
+    (sym c.get-entry.ensures ∙ met.cell) (sym c.wants_message.ensures ∙ c.if-wants_message.true))
 
 pub loop-preserved : goal.loop-preserved
 loop-preserved c =
@@ -23,5 +23,5 @@ loop-preserved c =
     c.lists-lists.ensures.once (sym c.loop.invariant.0 ∙ c.in-Some.is) in (
       c.next-next.ensures ∙ met.next,
       c.loop.invariant.1 ∙ first-fails (is_wanted c.args.wanted.now) _ _ _ met.value c.get-entry.result.now met.is
-          (sym c.get-entry.ensures ∙ met.cell) (sym c.fits.ensures ∙ c.if-fits.false),
+          (sym c.get-entry.ensures ∙ met.cell) (sym c.wants_message.ensures ∙ c.if-wants_message.false),
     )

@@ -19,7 +19,7 @@ invariant_of-result g c =
       capacity_is = ap (λ (t : Flight). t.capacity) c.clear.ensures ∙ c.self.invariant.capacity_is;
       reserved = omega (arith, none, empty);
       masked = subst (AreMasks _) (sym c.in_ok-reopen_parts.ensures.cores) (c.idle_core_masks.ensures
-      c.self.inside.config);
+          c.self.inside.config);
     }
 
 pub clear-requires-2 : goal.clear-requires-2

@@ -32,8 +32,14 @@ loop-event-preserved g c =
           ++ c.event-item.result ∷ []) answers c.step-answer.new.self) (sym c.add_answer.ensures.items)
           (ran_more _ _ _ _ _ _ _ c.loop-event.invariant.ran c.step-answer.ensures.stepped));
       set_up = set_up_on _ _ _ c.loop-event.invariant.set_up c.step-answer.ensures.set_up;
-      many = omega (arith, one, more, c.loop-event.invariant.many, c.add_answer.ensures.capacity,
-      c.loop-event-test.true);
+      many = omega (
+        arith,
+        one,
+        more,
+        c.loop-event.invariant.many,
+        c.add_answer.ensures.capacity,
+        c.loop-event-test.true,
+      );
     }
 
 pub returns-clause-throughout : goal.returns-clause-throughout

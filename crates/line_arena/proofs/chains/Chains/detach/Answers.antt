@@ -5,7 +5,7 @@ pub returns-clause-lacks : goal.returns-clause-lacks
 returns-clause-lacks g c =
     let d = c.unlink_node.ensures in (
       lacks_from c.args.cell c.args.self.now c.unlink_node.new.self c.requires.arena c.requires.cell c.requires.on
-      d.tied
+          d.tied
           d.total d.uses.0 d.uses.1 d.sizes d.lists,
       d.uses.1,
     )

@@ -32,7 +32,7 @@ invariant_of-self g c =
       still-room g.V.Listed.is_listed c.self.invariant.0 new.cells c.self.invariant.3
           (λ room. c.change.ensures.kept _ c.self.invariant.2 (λ lt. room)),
       c.update_set_count.ensures ∙ recounted g.V.Listed.is_listed new fresh.absent refl
-      c.count_if_unlisted.ensures.count
+          c.count_if_unlisted.ensures.count
           c.self.invariant.4,
     )
 

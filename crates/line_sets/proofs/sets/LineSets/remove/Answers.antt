@@ -38,7 +38,7 @@ invariant_of-self-2 g c =
       still-room g.V.Listed.is_listed c.self.invariant.0 new.cells c.self.invariant.3
           (λ room. c.change.ensures.kept _ c.self.invariant.2 (λ lt. room)),
       c.update_set_count.ensures ∙ recounted g.V.Listed.is_listed new was c.count_if_unlisted.ensures.count refl
-      c.self.invariant.4,
+          c.self.invariant.4,
     )
 
 pub returns-clause-value : goal.returns-clause-value

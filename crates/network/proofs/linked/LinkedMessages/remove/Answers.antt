@@ -72,8 +72,11 @@ taken c =
     (omega (arith, c.drop_surplus_empty_slots.ensures.few))
 
 pub invariant_of-self-2 : goal.invariant_of-self-2
-invariant_of-self-2 c = rw (c.drop_surplus_empty_slots.ensures.capacity, c.take_cell.ensures.capacity,
-    c.unlink-message.ensures.after)
+invariant_of-self-2 c = rw (
+  c.drop_surplus_empty_slots.ensures.capacity,
+  c.take_cell.ensures.capacity,
+  c.unlink-message.ensures.after,
+)
     (taken (goal.at.invariant_of-self-2 c).After-drop_surplus_empty_slots).stored
 
 pub returns-clause-value : goal.returns-clause-value

@@ -14,7 +14,7 @@ returns-then-at-len c = rw (← c.self.view_is) record {
 pub invariant_of-self : goal.invariant_of-self
 invariant_of-self c = (
   rw (sym (c.join_short_neighbours.ensures.same ∙ c.take_number_from_block.ensures.taken)) at (rises-take_out
-  c.args.number _ c.self.invariant.0),
+      c.args.number _ c.self.invariant.0),
   c.join_short_neighbours.ensures.filled c.take_number_from_block.ensures.filled,
   c.join_short_neighbours.ensures.dense (c.take_number_from_block.ensures.dense c.self.invariant.2),
 )

@@ -2,7 +2,7 @@ use Rattle.std.proofs.Common.{◌≡◌, ◌++◌, [], drop, get_or}
 use Rattle.line_arena.specs.CellLists.{first_cell}
 use Rattle.line_sets.specs.Order.{lines_passing}
 use Rattle.line_sets.specs.Stored.{entries_of}
-use Rattle.line_sets.proofs.sets.LineSets.push_listed.Given as goal
+use Rattle.line_sets.proofs.sets.LineSets.push_listed_lines_of_set.Given as goal
 
 abbrev pub invariant-loop : goal.invariant-loop
 invariant-loop g l =

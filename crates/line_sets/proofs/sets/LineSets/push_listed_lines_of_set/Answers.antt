@@ -1,8 +1,8 @@
 use Rattle.std.proofs.Common.{sym, ap, ◌∙◌}
 use Rattle.std.specs.Option.{is_some}
 use Rattle.line_sets.proofs.Walks.{line-of, added, not-added}
-use Rattle.line_sets.proofs.sets.LineSets.push_listed.Goals.{then-is_listed+in_ok-push, else-is_listed}
-use Rattle.line_sets.proofs.sets.LineSets.push_listed.Goals as goal
+use Rattle.line_sets.proofs.sets.LineSets.push_listed_lines_of_set.Goals.{then-is_listed+in_ok-push, else-is_listed}
+use Rattle.line_sets.proofs.sets.LineSets.push_listed_lines_of_set.Goals as goal
 
 pub get-entry-requires : goal.get-entry-requires
 get-entry-requires g c =

@@ -1,7 +1,7 @@
 use Rattle.std.proofs.Common.{subst}
 use Rattle.std.specs.Prelude.{List, ℕ, IsPermutation}
 use Rattle.line_sets.specs.SetTable.{all_listed}
-use Rattle.line_sets.proofs.sets.LineSets.numbers.Goals as goal
+use Rattle.line_sets.proofs.sets.LineSets.listed_line_numbers.Goals as goal
 
 pub returns : goal.returns
 returns g c =

@@ -1,5 +1,5 @@
 use Rattle.line_sets.proofs.ListedChanges.{distinct-everywhere}
-use Rattle.line_sets.proofs.sets.LineSets.listed.Goals as goal
+use Rattle.line_sets.proofs.sets.LineSets.count_listed_lines.Goals as goal
 
 pub returns-clause-once : goal.returns-clause-once
 returns-clause-once g c =

@@ -1,7 +1,7 @@
 use Rattle.std.proofs.Common.{ap, arith, length, ◌∙◌}
 use Rattle.line_sets.specs.SetTable.{all_listed}
 use Rattle.line_sets.proofs.TableLaws.{all-taken}
-use Rattle.line_sets.proofs.sets.LineSets.gathered.Goals as goal
+use Rattle.line_sets.proofs.sets.LineSets.gather_listed_lines.Goals as goal
 
 pub returns-then-len-self : goal.returns-then-len-self
 returns-then-len-self g c =

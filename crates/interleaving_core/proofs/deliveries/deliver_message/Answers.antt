@@ -23,7 +23,7 @@ use Rattle.interleaving_core.proofs.Endpoints.{waits_where}
 use Rattle.interleaving_core.proofs.Endpoints.{with_endpoints, still_fitted}
 use Rattle.interleaving_core.proofs.Only.{SameOpen, core_only, kept}
 use Rattle.interleaving_core.proofs.OpenCounts.{owed_kept}
-use Rattle.interleaving_core.proofs.deliveries.deliver.Goals as goal
+use Rattle.interleaving_core.proofs.deliveries.deliver_message.Goals as goal
 
 pub deliver_to_core-requires-clause-case : goal.deliver_to_core-requires-clause-case
 deliver_to_core-requires-clause-case c =

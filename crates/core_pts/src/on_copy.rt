@@ -76,7 +76,7 @@ pub(crate) fn received_value(index: usize, op: &Op, copy: &LineCopy) -> Option<u
 
 // A copy whose word was written at a time.
 #[inline(always)]
-fn copy_with_written_word(index: usize, ts: u64, value: u64, copy: &LineCopy) -> LineCopy
+fn written_at(index: usize, ts: u64, value: u64, copy: &LineCopy) -> LineCopy
     requires { index < 8 }
     ensures { result ≡ written_at index ts value copy.now }
 {
@@ -99,8 +99,8 @@ pub(crate) fn copy_after_operation(index: usize, ts: u64, op: &Op, copy: &LineCo
 {
     match *op {
         Op::Load(_) => copy_after_load(ts, copy),
-        Op::Store(_, value) => copy_with_written_word(index, ts, value, copy),
-        Op::Swap(_, value) => copy_with_written_word(index, ts, value, copy),
+        Op::Store(_, value) => written_at(index, ts, value, copy),
+        Op::Swap(_, value) => written_at(index, ts, value, copy),
     }
 }
 

@@ -84,7 +84,12 @@ impl Rows {
 
     /// The cell of a line in a set.
     #[inline(always)]
-    pub(crate) fn find<V>(&self, arena: &Arena<(u64, V)>, set: usize, line: u64) -> Option<u32>
+    pub(crate) fn cell_of_line<V>(
+        &self,
+        arena: &Arena<(u64, V)>,
+        set: usize,
+        line: u64,
+    ) -> Option<u32>
         requires in_table { set < length self.now }
         requires many { length self.now ≡ length arena.now.lists }
         requires fits { AreRows self.now arena.now.lists }
@@ -114,7 +119,12 @@ impl Rows {
 
     /// Takes a line out of the row of its set, if it is there, and gives its cell.
     #[inline(always)]
-    pub(crate) fn take<V>(&mut self, arena: &Arena<(u64, V)>, set: usize, line: u64) -> Option<u32>
+    pub(crate) fn take_line<V>(
+        &mut self,
+        arena: &Arena<(u64, V)>,
+        set: usize,
+        line: u64,
+    ) -> Option<u32>
         requires in_table { set < length self.old }
         requires many { length self.old ≡ length arena.now.lists }
         requires fits { AreRows self.old arena.now.lists }

@@ -19,7 +19,7 @@ use line_arena::{Arena, ArenaError, Cell};
 use network::LineNo;
 use ranked_lines::RankedLines;
 use ranked_lines::laws::sorted_is_unique;
-use ranked_lines::selection::{leave_out, number_at};
+use ranked_lines::selection::{leave_number_out, nth_smallest_number};
 use std::alloc::{AllocError, Global};
 use std::marker::Model;
 
@@ -128,7 +128,7 @@ impl<V: Copy + Listed> LineSets<V> {
     {
         looked_up::<(u64, V)>();
         let _lists = self.arena.lists();
-        let Some(cell) = self.rows.find(&self.arena, set, line) else {
+        let Some(cell) = self.rows.cell_of_line(&self.arena, set, line) else {
             return None;
         };
         Some(&self.arena.get(Cell(cell)).1)
@@ -189,7 +189,7 @@ impl<V: Copy + Listed> LineSets<V> {
         looked_up::<(u64, V)>();
         taken_off::<(u64, V)>();
         let _lists = self.arena.lists();
-        let Some(cell) = self.rows.find(&self.arena, set, line) else {
+        let Some(cell) = self.rows.cell_of_line(&self.arena, set, line) else {
             self.add(set, line, value);
             return;
         };
@@ -239,7 +239,7 @@ impl<V: Copy + Listed> LineSets<V> {
     {
         looked_up::<(u64, V)>();
         let _lists = self.arena.lists();
-        if let Some(cell) = self.rows.find(&self.arena, set, line) {
+        if let Some(cell) = self.rows.cell_of_line(&self.arena, set, line) {
             let old = &self.arena.get(Cell(cell)).1;
             let before = count_if_listed(old);
             let after = count_if_listed(&value);
@@ -266,7 +266,7 @@ impl<V: Copy + Listed> LineSets<V> {
         looked_up::<(u64, V)>();
         taken_off::<(u64, V)>();
         let _lists = self.arena.lists();
-        let Some(cell) = self.rows.take(&self.arena, set, line) else {
+        let Some(cell) = self.rows.take_line(&self.arena, set, line) else {
             return None;
         };
         let (_line, value) = self.arena.unlink(Cell(cell));
@@ -306,8 +306,8 @@ impl<V: Copy + Listed> LineSets<V> {
             return Ok(LineNo(line));
         }
         let mut numbers = self.gather_listed_lines()?;
-        leave_out(&mut numbers, &but);
-        Ok(LineNo(number_at(&mut numbers, at)))
+        leave_number_out(&mut numbers, &but);
+        Ok(LineNo(nth_smallest_number(&mut numbers, at)))
     }
 
     /// Keeps the listed lines in rising order from now on, in blocks of at most 128. `nth_listed` then goes over the

@@ -5,7 +5,8 @@ ghost use Rattle.ranked_lines.specs.Rising.{all_but, put_in, sorted, take_out, R
 ghost use Rattle.ranked_lines.specs.Blocked.{block_at, joined, size_at, Filled, IsPlaceOf, DenseBut, Dense};
 
 use crate::rising_list::{
-    Block, count_without_number, index_without_number, list_ends_below, put_in, take_out,
+    Block, count_without_number, index_without_number, list_ends_below, put_in_rising_list,
+    take_out_of_rising_list,
 };
 use std::alloc::{AllocError, Global};
 use std::marker::Model;
@@ -137,7 +138,7 @@ fn put_number_in_block(blocks: &mut Vec<Block>, at: usize, number: u64)
     ensures filled { Filled blocks.new.items }
     ensures dense { Dense 65 blocks.old.items → Dense 65 blocks.new.items }
 {
-    put_in(&mut blocks[at], number);
+    put_in_rising_list(&mut blocks[at], number);
 }
 
 /// Takes the first number that isn't below a number out of its block, and the block if it gets empty.
@@ -155,7 +156,7 @@ fn take_number_from_block(blocks: &mut Vec<Block>, at: usize, number: u64)
         let _block = blocks.remove(at);
         return;
     }
-    take_out(&mut blocks[at], number);
+    take_out_of_rising_list(&mut blocks[at], number);
 }
 
 /// Puts numbers behind those of a block that has room for them.

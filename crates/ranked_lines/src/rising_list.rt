@@ -10,7 +10,7 @@ use arrayvec::ArrayVec;
 pub(crate) type Block = ArrayVec<u64, 128>;
 
 /// Puts a number into its place in a rising list that has room.
-pub(crate) fn put_in(numbers: &mut Block, number: u64)
+pub(crate) fn put_in_rising_list(numbers: &mut Block, number: u64)
     requires rises { Rises numbers.old.items }
     requires room { length numbers.old.items < 128 }
     ensures { numbers.new.items ≡ put_in number numbers.old.items }
@@ -20,7 +20,7 @@ pub(crate) fn put_in(numbers: &mut Block, number: u64)
 }
 
 /// Takes the first number that isn't below a number out of a rising list.
-pub(crate) fn take_out(numbers: &mut Block, number: u64)
+pub(crate) fn take_out_of_rising_list(numbers: &mut Block, number: u64)
     requires { Rises numbers.old.items }
     ensures { numbers.new.items ≡ take_out number numbers.old.items }
 {

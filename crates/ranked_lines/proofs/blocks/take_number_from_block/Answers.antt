@@ -15,19 +15,22 @@ pub returns-then-block_size-le1-clause-filled : goal.returns-then-block_size-le1
 returns-then-block_size-le1-clause-filled c =
     rw (sym c.remove-block.ensures.items) at (filled-remove c.args.blocks.now.items c.args.at c.requires.filled)
 
-pub take_out-requires : goal.take_out-requires
-take_out-requires c = block-rises c.args.blocks.now.items c.args.at c.index_mut.result.now _
+pub take_out_of_rising_list-requires : goal.take_out_of_rising_list-requires
+take_out_of_rising_list-requires c = block-rises c.args.blocks.now.items c.args.at c.index_mut.result.now _
     c.requires.inside c.index_mut.ensures.value refl c.requires.rises
 
 pub returns-clause-taken : goal.returns-clause-taken
 returns-clause-taken c = took c.args.number c.args.blocks.now.items c.args.at c.index_mut.result.now
-    c.take_out.new.numbers c.requires.inside c.requires.first c.index_mut.ensures.value c.take_out.ensures
+    c.take_out_of_rising_list.new.numbers c.requires.inside c.requires.first c.index_mut.ensures.value
+    c.take_out_of_rising_list.ensures
 
 pub returns-clause-filled : goal.returns-clause-filled
 returns-clause-filled c =
     let more = c.if-block_size-le1.false in let count = rw c.deref.ensures.value at c.block_size.ensures.count in
-    took-filled c.args.number c.args.blocks.now.items c.args.at c.index_mut.result.now c.take_out.new.numbers
-    c.requires.filled c.requires.inside c.index_mut.ensures.value (omega (arith, more, count)) c.take_out.ensures
+    took-filled c.args.number c.args.blocks.now.items c.args.at c.index_mut.result.now
+    c.take_out_of_rising_list.new.numbers
+    c.requires.filled c.requires.inside c.index_mut.ensures.value (omega (arith, more, count))
+    c.take_out_of_rising_list.ensures
 
 pub returns-then-block_size-le1-clause-dense : goal.returns-then-block_size-le1-clause-dense
 returns-then-block_size-le1-clause-dense c = λ h.
@@ -37,4 +40,4 @@ returns-then-block_size-le1-clause-dense c = λ h.
 
 pub returns-clause-dense : goal.returns-clause-dense
 returns-clause-dense c = took-dense-but c.args.number c.args.blocks.now.items c.args.at c.index_mut.result.now
-    c.take_out.new.numbers c.requires.inside c.index_mut.ensures.value c.take_out.ensures
+    c.take_out_of_rising_list.new.numbers c.requires.inside c.index_mut.ensures.value c.take_out_of_rising_list.ensures

@@ -9,31 +9,31 @@ use Rattle.line_sets.proofs.sets.LineSets.insert.Goals as goal
 pub update_set_count-requires : goal.update_set_count-requires
 update_set_count-requires g c =
     let found = is-found c.self.invariant.0 c.lists-lists.ensures.once c.looked_up.ensures c.self.view_is
-    c.requires.in_table (sym c.find.ensures ∙ c.in-Some.is) in
+    c.requires.in_table (sym c.cell_of_line.ensures ∙ c.in-Some.is) in
     can-count g.V.Listed.is_listed c.args.set c.args.line found.stored found.low (read-value found c.get.ensures)
     c.self.invariant.4
     c.count_if_unlisted.ensures.count c.count_if_unlisted-2.ensures.one
 
 pub add-requires-clause-absent : goal.add-requires-clause-absent
 add-requires-clause-absent g c = is-missing c.args.set c.args.line c.self.invariant.0 c.self.view_is
-    c.requires.in_table (sym c.find.ensures ∙ c.in_default.is)
+    c.requires.in_table (sym c.cell_of_line.ensures ∙ c.in_default.is)
 
 pub get_mut-requires : goal.get_mut-requires
 get_mut-requires g c =
     let found = is-found c.self.invariant.0 c.lists-lists.ensures.once c.looked_up.ensures c.self.view_is
-    c.requires.in_table (sym c.find.ensures ∙ c.in-Some.is) in ap is_some found.cell
+    c.requires.in_table (sym c.cell_of_line.ensures ∙ c.in-Some.is) in ap is_some found.cell
 
 pub move_to_back-requires-clause-cell : goal.move_to_back-requires-clause-cell
 move_to_back-requires-clause-cell g c =
     let found = is-found c.self.invariant.0 c.lists-lists.ensures.once c.looked_up.ensures c.self.view_is
-    c.requires.in_table (sym c.find.ensures ∙ c.in-Some.is) in
+    c.requires.in_table (sym c.cell_of_line.ensures ∙ c.in-Some.is) in
     ap is_some (written-there c.in-Some.cell (c.args.line, c.args.value) c.self.inside.arena.lists
     (ap is_some found.cell))
 
 pub invariant_of-self-2 : goal.invariant_of-self-2
 invariant_of-self-2 g c =
     let found = is-found c.self.invariant.0 c.lists-lists.ensures.once c.looked_up.ensures c.self.view_is
-    c.requires.in_table (sym c.find.ensures ∙ c.in-Some.is) in let was = read-value found c.get.ensures in
+    c.requires.in_table (sym c.cell_of_line.ensures ∙ c.in-Some.is) in let was = read-value found c.get.ensures in
     let moved = rw (written-there c.in-Some.cell (c.args.line, c.args.value) c.self.inside.arena.lists
     (ap is_some found.cell)) at c.move_to_back.ensures in
     let new = used c.args.value found c.taken_off.ensures moved in
@@ -51,7 +51,7 @@ invariant_of-self-2 g c =
 pub returns : goal.returns
 returns g c =
     let found = is-found c.self.invariant.0 c.lists-lists.ensures.once c.looked_up.ensures c.self.view_is
-    c.requires.in_table (sym c.find.ensures ∙ c.in-Some.is) in
+    c.requires.in_table (sym c.cell_of_line.ensures ∙ c.in-Some.is) in
     let moved = rw (written-there c.in-Some.cell (c.args.line, c.args.value) c.self.inside.arena.lists
     (ap is_some found.cell)) at c.move_to_back.ensures in
     rw (← c.self.view_is) (ap (table_of c.self.inside.ways) (used c.args.value found c.taken_off.ensures moved).are)
@@ -59,14 +59,14 @@ returns g c =
 pub next-requires : goal.next-requires
 next-requires g c =
     let found = is-found c.self.invariant.0 c.lists-lists.ensures.once c.looked_up.ensures c.self.view_is
-    c.requires.in_table (sym c.find.ensures ∙ c.in-Some.is) in
+    c.requires.in_table (sym c.cell_of_line.ensures ∙ c.in-Some.is) in
     ap is_some (written-there c.in-Some.cell (c.args.line, c.args.value) c.self.inside.arena.lists
     (ap is_some found.cell))
 
 pub invariant_of-self : goal.invariant_of-self
 invariant_of-self g c =
     let found = is-found c.self.invariant.0 c.lists-lists.ensures.once c.looked_up.ensures c.self.view_is
-    c.requires.in_table (sym c.find.ensures ∙ c.in-Some.is) in let was = read-value found c.get.ensures in
+    c.requires.in_table (sym c.cell_of_line.ensures ∙ c.in-Some.is) in let was = read-value found c.get.ensures in
     let last = sym c.next.ensures ∙ is-none c.next.result (c.is_none.ensures ∙ ap not c.if-is_none.true) in
     let new = used-last c.args.value found last in let before = c.count_if_listed-before.ensures.count in
     let after = c.count_if_listed-after.ensures.count in (
@@ -82,19 +82,19 @@ invariant_of-self g c =
 pub returns-then-is_none : goal.returns-then-is_none
 returns-then-is_none g c =
     let found = is-found c.self.invariant.0 c.lists-lists.ensures.once c.looked_up.ensures c.self.view_is
-    c.requires.in_table (sym c.find.ensures ∙ c.in-Some.is) in
+    c.requires.in_table (sym c.cell_of_line.ensures ∙ c.in-Some.is) in
     let last = sym c.next.ensures ∙ is-none c.next.result (c.is_none.ensures ∙ ap not c.if-is_none.true) in
     rw (← c.self.view_is) (ap (table_of c.self.inside.ways) (used-last c.args.value found last).are)
 
 pub get-requires : goal.get-requires
 get-requires g c =
     let found = is-found c.self.invariant.0 c.lists-lists.ensures.once c.looked_up.ensures c.self.view_is
-    c.requires.in_table (sym c.find.ensures ∙ c.in-Some.is) in ap is_some found.cell
+    c.requires.in_table (sym c.cell_of_line.ensures ∙ c.in-Some.is) in ap is_some found.cell
 
 pub overflow_sub-self : goal.overflow_sub-self
 overflow_sub-self g c =
     let found = is-found c.self.invariant.0 c.lists-lists.ensures.once c.looked_up.ensures c.self.view_is
-    c.requires.in_table (sym c.find.ensures ∙ c.in-Some.is) in
+    c.requires.in_table (sym c.cell_of_line.ensures ∙ c.in-Some.is) in
     in-count g.V.Listed.is_listed found c.get.ensures c.self.invariant.1 c.count_if_listed-before.ensures.count
 
 pub overflow_add-self : goal.overflow_add-self

@@ -7,29 +7,29 @@ use Rattle.line_sets.proofs.sets.LineSets.remove.Goals as goal
 pub update_set_count-requires : goal.update_set_count-requires
 update_set_count-requires g c =
     let found = is-found c.self.invariant.0 c.lists-lists.ensures.once c.looked_up.ensures c.self.view_is c.requires
-    (sym c.take.ensures.value ∙ c.in-Some.is) in
+    (sym c.take_line.ensures.value ∙ c.in-Some.is) in
     can-count g.V.Listed.is_listed c.args.set c.args.line found.stored found.low
     (read-value found c.unlink-line.ensures.value)
     c.self.invariant.4 c.count_if_unlisted.ensures.count (omega arith)
 
 pub returns-in_default-clause-value : goal.returns-in_default-clause-value
 returns-in_default-clause-value g c = sym (is-missing c.args.set c.args.line c.self.invariant.0 c.self.view_is
-    c.requires (sym c.take.ensures.value ∙ c.in_default.is))
+    c.requires (sym c.take_line.ensures.value ∙ c.in_default.is))
 
 pub returns-in_default-clause-after : goal.returns-in_default-clause-after
 returns-in_default-clause-after g c =
     c.self.view_is ∙ ap (table_of c.args.self.now.ways) (nothing-cut c.args.set c.args.line c.self.invariant.0
-    c.self.view_is c.requires (sym c.take.ensures.value ∙ c.in_default.is))
+    c.self.view_is c.requires (sym c.take_line.ensures.value ∙ c.in_default.is))
 
 pub unlink-line-requires : goal.unlink-line-requires
 unlink-line-requires g c =
     let found = is-found c.self.invariant.0 c.lists-lists.ensures.once c.looked_up.ensures c.self.view_is c.requires
-    (sym c.take.ensures.value ∙ c.in-Some.is) in ap is_some found.cell
+    (sym c.take_line.ensures.value ∙ c.in-Some.is) in ap is_some found.cell
 
 pub invariant_of-self-2 : goal.invariant_of-self-2
 invariant_of-self-2 g c =
     let found = is-found c.self.invariant.0 c.lists-lists.ensures.once c.looked_up.ensures c.self.view_is c.requires
-    (sym c.take.ensures.value ∙ c.in-Some.is) in let was = read-value found c.unlink-line.ensures.value in
+    (sym c.take_line.ensures.value ∙ c.in-Some.is) in let was = read-value found c.unlink-line.ensures.value in
     let new = cut-off found c.taken_off.ensures c.unlink-line.ensures.after c.in-Some.ensures.cut in
     let before = c.count_if_listed-before.ensures.count in (
       new.stored,
@@ -44,19 +44,19 @@ invariant_of-self-2 g c =
 pub returns-clause-value : goal.returns-clause-value
 returns-clause-value g c =
     let found = is-found c.self.invariant.0 c.lists-lists.ensures.once c.looked_up.ensures c.self.view_is c.requires
-    (sym c.take.ensures.value ∙ c.in-Some.is) in
+    (sym c.take_line.ensures.value ∙ c.in-Some.is) in
     rw (← c.self.view_is) (sym (read-value found c.unlink-line.ensures.value))
 
 pub returns-clause-after : goal.returns-clause-after
 returns-clause-after g c =
     let found = is-found c.self.invariant.0 c.lists-lists.ensures.once c.looked_up.ensures c.self.view_is c.requires
-    (sym c.take.ensures.value ∙ c.in-Some.is) in
+    (sym c.take_line.ensures.value ∙ c.in-Some.is) in
     rw (← c.self.view_is) (ap (table_of c.self.inside.ways)
     (cut-off found c.taken_off.ensures c.unlink-line.ensures.after c.in-Some.ensures.cut).are)
 
 pub overflow_sub-self : goal.overflow_sub-self
 overflow_sub-self g c =
     let found = is-found c.self.invariant.0 c.lists-lists.ensures.once c.looked_up.ensures c.self.view_is c.requires
-    (sym c.take.ensures.value ∙ c.in-Some.is) in
+    (sym c.take_line.ensures.value ∙ c.in-Some.is) in
     in-count g.V.Listed.is_listed found c.unlink-line.ensures.value c.self.invariant.1
     c.count_if_listed-before.ensures.count

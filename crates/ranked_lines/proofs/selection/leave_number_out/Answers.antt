@@ -2,7 +2,7 @@ use Rattle.std.proofs.Common.{◌≡◌, filter, not, rules, sym, ap, ◌∙◌}
 use Rattle.std.proofs.lemmas.Fn.{filter_same}
 use Rattle.ranked_lines.specs.Rising.{all_but, is_but}
 use Rattle.ranked_lines.proofs.SortedLists.{all_but-none}
-use Rattle.ranked_lines.proofs.selection.leave_out.Goals as goal
+use Rattle.ranked_lines.proofs.selection.leave_number_out.Goals as goal
 
 pub returns-in_default : goal.returns-in_default
 returns-in_default c =

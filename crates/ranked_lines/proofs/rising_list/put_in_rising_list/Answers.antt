@@ -1,7 +1,7 @@
 use Rattle.std.proofs.Common.{ap, ◌∙◌, ltb}
 use Rattle.std.specs.List.{insert, prefix_len}
 use Rattle.ranked_lines.proofs.RisingEdits.{inserted}
-use Rattle.ranked_lines.proofs.rising_list.put_in.Goals as goal
+use Rattle.ranked_lines.proofs.rising_list.put_in_rising_list.Goals as goal
 
 pub returns : goal.returns
 returns c =

@@ -2,7 +2,7 @@ use Rattle.std.proofs.Common.{ap, ◌∙◌, sym}
 use Rattle.std.specs.List.{slice_get}
 use Rattle.ranked_lines.specs.Rising.{sorted}
 use Rattle.ranked_lines.proofs.SortedLists.{sorted-at}
-use Rattle.ranked_lines.proofs.selection.number_at.Goals as goal
+use Rattle.ranked_lines.proofs.selection.nth_smallest_number.Goals as goal
 
 pub returns : goal.returns
 returns c =

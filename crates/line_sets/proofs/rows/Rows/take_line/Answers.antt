@@ -1,7 +1,7 @@
 use Rattle.std.proofs.Common.{get_or, set, sym, ap, ◌∙◌}
 use Rattle.line_sets.specs.TaggedRows.{freed}
 use Rattle.line_sets.proofs.RowFinds.{row-read}
-use Rattle.line_sets.proofs.rows.Rows.take.Goals as goal
+use Rattle.line_sets.proofs.rows.Rows.take_line.Goals as goal
 
 pub returns-clause-cut : goal.returns-clause-cut
 returns-clause-cut g c =

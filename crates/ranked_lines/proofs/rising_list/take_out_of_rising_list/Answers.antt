@@ -1,7 +1,7 @@
 use Rattle.std.proofs.Common.{arith, ltb, ap, ◌∙◌}
 use Rattle.std.specs.List.{prefix_len, remove}
 use Rattle.ranked_lines.proofs.RisingEdits.{none-removed, removed}
-use Rattle.ranked_lines.proofs.rising_list.take_out.Goals as goal
+use Rattle.ranked_lines.proofs.rising_list.take_out_of_rising_list.Goals as goal
 
 pub returns-then-at-len : goal.returns-then-at-len
 returns-then-at-len c =

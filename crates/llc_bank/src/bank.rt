@@ -335,12 +335,12 @@ impl Bank {
         ensures same_set { IfSome result (λ victim. set_of self.now victim ≡ set_of self.now line) }
         ensures evicted { IfSome result (λ victim. IsOk (evict self.now victim).0) }
     {
-        self.line_in_the_way(line)
+        self.line_that_makes_room(line)
     }
 
     // The line that make_room gives.
     #[inline(always)]
-    fn line_in_the_way(&self, line: LineNo) -> Option<LineNo>
+    fn line_that_makes_room(&self, line: LineNo) -> Option<LineNo>
         ensures line { result ≡ make_room self.now line }
         ensures sound { IsSound self.now.banks self.now.table }
     {

@@ -15,7 +15,10 @@ ghost use Rattle.core_pts.specs.CoreTable.{index_of, is_pinned, issue, line_of, 
 
 use crate::attempt::{Attempt, IssueError};
 use crate::config::CoreConfig;
-use crate::on_copy::{copy_after, is_exclusive, received_at, serves, time_of, words_of_copy};
+use crate::on_copy::{
+    completion_time, copy_after_operation, copy_serves_operation, is_exclusive, received_value,
+    words_of_copy,
+};
 use network::{Body, LineNo, Message, Node, quotient, remainder};
 use physiological_order::Op;
 use private_cache::{Cache, CacheError, Geometry, LineCopy};
@@ -331,7 +334,7 @@ impl Core {
             return Ok(Attempt::Idle);
         };
         if !self.has_copy {
-            return Ok(self.answer_without(&op));
+            return Ok(self.answer_without_copy(&op));
         }
         self.attempt_on_copy(&op)
     }
@@ -348,22 +351,22 @@ impl Core {
         let Some(copy) = self.cache.find(line) else {
             unreachable!();
         };
-        if !serves(op, self.pts, copy) {
-            return Ok(self.answer_unserved(op, copy.wts));
+        if !copy_serves_operation(op, self.pts, copy) {
+            return Ok(self.answer_unserved_operation(op, copy.wts));
         }
-        let Some(ts) = time_of(self.config.private_write, self.pts, op, copy) else {
+        let Some(ts) = completion_time(self.config.private_write, self.pts, op, copy) else {
             return Err(Exhausted);
         };
         let index = self.index_of(op);
-        let received = received_at(index, op, copy);
-        let after = copy_after(index, ts, op, copy);
+        let received = received_value(index, op, copy);
+        let after = copy_after_operation(index, ts, op, copy);
         self.complete(line, after, ts);
         Ok(Attempt::Completed(received, ts))
     }
 
     // The answer to an attempt without a copy.
     #[inline(always)]
-    fn answer_without(&self, op: &Op) -> Attempt
+    fn answer_without_copy(&self, op: &Op) -> Attempt
         requires { copy_of self.now.cache (line_of self.now op.now) ≡ None }
         ensures { result ≡ attempt_without self.now op.now }
     {
@@ -373,18 +376,18 @@ impl Core {
         if !self.cache.has_room(self.line_of_word(op)) {
             return Attempt::NoRoom;
         }
-        need(self.pts, op, None)
+        needed_request(self.pts, op, None)
     }
 
     // The answer to an attempt on a copy of a version that doesn't serve the operation.
     #[inline(always)]
-    fn answer_unserved(&self, op: &Op, version: u64) -> Attempt
+    fn answer_unserved_operation(&self, op: &Op, version: u64) -> Attempt
         ensures { result ≡ attempt_unserved self.now op.now version }
     {
         if self.is_out {
             return Attempt::Waiting;
         }
-        need(self.pts, op, Some(version))
+        needed_request(self.pts, op, Some(version))
     }
 
     // Closes the open operation at a time: it leaves this copy of its line.
@@ -446,7 +449,7 @@ impl Core {
 
 // The request that an operation needs, by the version of the copy.
 #[inline(always)]
-fn need(pts: u64, op: &Op, version: Option<u64>) -> Attempt
+fn needed_request(pts: u64, op: &Op, version: Option<u64>) -> Attempt
     ensures { result ≡ need pts op.now version }
 {
     match *op {

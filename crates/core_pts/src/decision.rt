@@ -31,7 +31,7 @@ pub enum CoreReaction {
 
 // A line is asked back, of which no copy stays.
 #[inline(always)]
-fn flushed(copy: Option<&LineCopy>) -> CoreReaction
+fn decide_flush(copy: Option<&LineCopy>) -> CoreReaction
     ensures { result ≡ flushed (option_copied copy.entry) }
 {
     let Some(copy) = copy else {
@@ -48,7 +48,7 @@ fn flushed(copy: Option<&LineCopy>) -> CoreReaction
 
 // A line is asked back, of which a copy stays to be read at least up to a time.
 #[inline(always)]
-fn written_back(lease: u64, until: u64, copy: Option<&LineCopy>) -> CoreReaction
+fn decide_write_back(lease: u64, until: u64, copy: Option<&LineCopy>) -> CoreReaction
     ensures { result ≡ written_back lease until (option_copied copy.entry) }
 {
     let Some(copy) = copy else {
@@ -70,7 +70,7 @@ fn written_back(lease: u64, until: u64, copy: Option<&LineCopy>) -> CoreReaction
 impl Core {
     /// What the core does at a message that is no reply. A copy of the line is looked for only where it decides.
     #[inline(always)]
-    pub(crate) fn decided(&self, message: &Message) -> CoreReaction
+    pub(crate) fn decide_on_message(&self, message: &Message) -> CoreReaction
         requires { is_reply message.now.body ≡ false }
         ensures decision { result ≡ decided self.now message.now.line message.now.body }
         ensures place { IsTrue (finds_place (is_pinned (pinned_line self.now) message.now.line)
@@ -79,8 +79,8 @@ impl Core {
         let line = message.line;
         match message.body {
             Body::FlushReq | Body::WbReq { .. } if self.is_pinned(line) => CoreReaction::Holds,
-            Body::FlushReq => flushed(self.cache.find(line)),
-            Body::WbReq { rts } => written_back(self.lease(), rts, self.cache.find(line)),
+            Body::FlushReq => decide_flush(self.cache.find(line)),
+            Body::WbReq { rts } => decide_write_back(self.lease(), rts, self.cache.find(line)),
             _ => CoreReaction::NoCase,
         }
     }

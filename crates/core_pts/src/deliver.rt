@@ -79,11 +79,11 @@ impl Core {
             Body::ShRep(timed) => self.fill_line(line, CopyState::Shared, timed),
             Body::ExRep(timed) => self.fill_line(line, CopyState::Exclusive, timed),
             Body::RenewRep { rts } => {
-                let renewed = self.copy_there(line).renewed(*rts);
+                let renewed = self.present_copy(line).renewed(*rts);
                 self.change_copy(line, renewed);
             }
             Body::UpgradeRep { rts } => {
-                let upgraded = self.copy_there(line).upgraded(*rts);
+                let upgraded = self.present_copy(line).upgraded(*rts);
                 self.change_copy(line, upgraded);
             }
             _ => unreachable!(),
@@ -102,7 +102,7 @@ impl Core {
 
     // The copy of a line that has one.
     #[inline(always)]
-    fn copy_there(&self, line: LineNo) -> &LineCopy
+    fn present_copy(&self, line: LineNo) -> &LineCopy
         requires { IsSome (copy_of self.now.cache line) }
         ensures { Some result.now ≡ copy_of self.now.cache line }
     {
@@ -113,7 +113,7 @@ impl Core {
     }
 
     // This copy stays of a line that goes back, if any. It isn't the open operation's line.
-    fn keep_copy(&mut self, line: LineNo, kept: Option<LineCopy>)
+    fn change_or_drop_copy(&mut self, line: LineNo, kept: Option<LineCopy>)
         requires there { IsSome (copy_of self.old.cache line) }
         requires free { is_pinned (pinned_line self.old) line ≡ false }
         ensures { self.new ≡ record self.old { cache = kept_in self.old line kept } }
@@ -143,7 +143,7 @@ impl Part for Core {
         if Core::is_reply(&message.body) {
             return None;
         }
-        match self.decided(message) {
+        match self.decide_on_message(message) {
             CoreReaction::Returns { .. } => Some((self.bank_of(message.line), false)),
             _ => None,
         }
@@ -168,9 +168,9 @@ impl Part for Core {
             return Ok(Reaction::Done(None));
         }
         let line = message.line;
-        match self.decided(message) {
+        match self.decide_on_message(message) {
             CoreReaction::Returns { kept, sent } => {
-                self.keep_copy(line, kept);
+                self.change_or_drop_copy(line, kept);
                 Ok(Reaction::Done(Some(self.to_bank(line, sent))))
             }
             CoreReaction::Drops | CoreReaction::NoCase => Ok(Reaction::Dropped),

@@ -20,7 +20,7 @@ pub(crate) fn is_exclusive(state: CopyState) -> bool
 
 // Whether a copy serves an operation at the core's time.
 #[inline(always)]
-pub(crate) fn serves(op: &Op, pts: u64, copy: &LineCopy) -> bool
+pub(crate) fn copy_serves_operation(op: &Op, pts: u64, copy: &LineCopy) -> bool
     ensures { result ≡ serves op.now pts copy.now }
 {
     match *op {
@@ -46,7 +46,12 @@ fn write_time(private_write: bool, pts: u64, copy: &LineCopy) -> Option<u64>
 
 // The time of an operation that a copy serves, or nothing if it doesn't fit.
 #[inline(always)]
-pub(crate) fn time_of(private_write: bool, pts: u64, op: &Op, copy: &LineCopy) -> Option<u64>
+pub(crate) fn completion_time(
+    private_write: bool,
+    pts: u64,
+    op: &Op,
+    copy: &LineCopy,
+) -> Option<u64>
     ensures { result ≡ time_of private_write pts op.now copy.now }
 {
     match *op {
@@ -58,7 +63,7 @@ pub(crate) fn time_of(private_write: bool, pts: u64, op: &Op, copy: &LineCopy) -
 
 // What an operation receives, if its word is at this index of the line.
 #[inline(always)]
-pub(crate) fn received_at(index: usize, op: &Op, copy: &LineCopy) -> Option<u64>
+pub(crate) fn received_value(index: usize, op: &Op, copy: &LineCopy) -> Option<u64>
     requires { index < 8 }
     ensures { result ≡ received_at index op.now copy.now }
 {
@@ -88,12 +93,12 @@ fn written_at(index: usize, ts: u64, value: u64, copy: &LineCopy) -> LineCopy
 
 // The copy after an operation at a time.
 #[inline(always)]
-pub(crate) fn copy_after(index: usize, ts: u64, op: &Op, copy: &LineCopy) -> LineCopy
+pub(crate) fn copy_after_operation(index: usize, ts: u64, op: &Op, copy: &LineCopy) -> LineCopy
     requires { index < 8 }
     ensures { result ≡ copy_after index ts op.now copy.now }
 {
     match *op {
-        Op::Load(_) => after_load(ts, copy),
+        Op::Load(_) => copy_after_load(ts, copy),
         Op::Store(_, value) => written_at(index, ts, value, copy),
         Op::Swap(_, value) => written_at(index, ts, value, copy),
     }
@@ -101,7 +106,7 @@ pub(crate) fn copy_after(index: usize, ts: u64, op: &Op, copy: &LineCopy) -> Lin
 
 // The copy after a load at a time: an owner's lease goes on to it.
 #[inline(always)]
-fn after_load(ts: u64, copy: &LineCopy) -> LineCopy
+fn copy_after_load(ts: u64, copy: &LineCopy) -> LineCopy
     ensures { result ≡ read_at ts copy.now }
 {
     if !is_exclusive(copy.state) {

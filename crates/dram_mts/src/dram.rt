@@ -81,7 +81,7 @@ impl Dram {
 }
 
 /// The answer to a message, about the same line.
-fn answer_to(message: &Message, body: Body) -> Message
+fn dram_reply(message: &Message, body: Body) -> Message
     ensures { result ≡ record {
       from = message.now.to;
       to = message.now.from;
@@ -133,6 +133,6 @@ impl Part for Dram {
             }
             _ => Body::DramLdRep(self.load(message.line)),
         };
-        Ok(Reaction::Done(Some(answer_to(message, body))))
+        Ok(Reaction::Done(Some(dram_reply(message, body))))
     }
 }

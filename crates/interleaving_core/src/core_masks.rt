@@ -18,7 +18,7 @@ pub(crate) struct CoreMasks {
 }
 
 /// So many cores without open operations.
-pub(crate) fn all_idle(cores: u32) -> CoreMasks
+pub(crate) fn idle_core_masks(cores: u32) -> CoreMasks
     requires some { 1 ≤ cores }
     requires most { cores ≤ 64 }
     ensures { (config : Config) → AreMasks result (row (open_core config) 0 cores) }
@@ -31,7 +31,7 @@ pub(crate) fn all_idle(cores: u32) -> CoreMasks
 
 /// Notes how the core of a number now stands.
 #[inline(always)]
-pub(crate) fn note(masks: &mut CoreMasks, number: u32, core: &Core)
+pub(crate) fn update_core_masks(masks: &mut CoreMasks, number: u32, core: &Core)
     requires { number < 64 }
     ensures { (cores : List CoreState) (old : CoreState) → slice_get cores number ≡ Some old →
         AreMasks masks.old cores → AreMasks masks.new (slice_set cores number core.now) }
@@ -43,7 +43,7 @@ pub(crate) fn note(masks: &mut CoreMasks, number: u32, core: &Core)
 
 /// Notes what an attempt of the core of a number was answered. Only a completion and a request change the sets.
 #[inline(always)]
-pub(crate) fn note_attempt(masks: &mut CoreMasks, number: u32, answer: &Answer)
+pub(crate) fn update_masks_after_attempt(masks: &mut CoreMasks, number: u32, answer: &Answer)
     requires { number < 64 }
     ensures { (cores : List CoreState) (old core : CoreState) → slice_get cores number ≡ Some old →
         StandsAfter answer.now old core → AreMasks masks.old cores →
@@ -61,7 +61,7 @@ pub(crate) fn note_attempt(masks: &mut CoreMasks, number: u32, answer: &Answer)
 
 /// Notes how the core of a number stands after a delivery, which leaves the open operation as it is.
 #[inline(always)]
-pub(crate) fn note_delivery(masks: &mut CoreMasks, number: u32, core: &Core)
+pub(crate) fn update_masks_after_delivery(masks: &mut CoreMasks, number: u32, core: &Core)
     requires { number < 64 }
     ensures { (cores : List CoreState) (old : CoreState) → slice_get cores number ≡ Some old →
         core.now.open_op ≡ old.open_op → AreMasks masks.old cores →

@@ -20,9 +20,9 @@ ghost use Rattle.interleaving_core.specs.PartsInMemory.{ArePartsOf, with_parts};
 ghost use Rattle.interleaving_core.specs.Reservation.{IsFitted};
 ghost use Rattle.interleaving_core.specs.StepAnswers.{TakesMemory, asks_memory};
 
-use crate::core_masks::{CoreMasks, note_delivery};
+use crate::core_masks::{CoreMasks, update_masks_after_delivery};
 use crate::plain_answer::PlainAnswer;
-use crate::reactions::{deliver_to, take};
+use crate::reactions::{deliver_to_part, take_message};
 use core_pts::Core;
 use dram_mts::Dram;
 use llc_bank::{Bank, Entry};
@@ -33,7 +33,7 @@ use std::alloc::AllocError;
 // Whether a message is a request that its bank holds and does nothing for; if so, whether that is for the line's sake,
 // which is being loaded, recalled or stored: then no line need leave for it. Else the line's set has no room.
 #[inline(always)]
-fn held_request(bank: &Bank, message: &Message) -> Option<bool>
+fn held_request_awaits_line(bank: &Bank, message: &Message) -> Option<bool>
     ensures value { unwrap_or result false ≡ (is_request message.now.body &&
         is_under_way (entry_of bank.now message.now.line)) }
     ensures held { IsSome result → bank_table bank.now message.now ≡ Some (Held, bank.now) }
@@ -80,10 +80,10 @@ fn deliver_to_bank(
     };
     if Bank::is_reply(&message.body) {
         bank.take_reply(message);
-        take(flight, number);
+        take_message(flight, number);
         return PlainAnswer::Delivered;
     }
-    match deliver_to(bank, flight, is_stopped, number) {
+    match deliver_to_part(bank, flight, is_stopped, number) {
         Ok(plain) => plain,
         Err(AllocError) => unreachable!(),
     }
@@ -121,13 +121,13 @@ fn deliver_to_core(
     };
     if Core::is_reply(&message.body) {
         core.take_reply(message);
-        take(flight, number);
-        note_delivery(masks, number_of_core, core);
+        take_message(flight, number);
+        update_masks_after_delivery(masks, number_of_core, core);
         return PlainAnswer::Delivered;
     }
-    match deliver_to(core, flight, is_stopped, number) {
+    match deliver_to_part(core, flight, is_stopped, number) {
         Ok(plain) => {
-            note_delivery(masks, number_of_core, core);
+            update_masks_after_delivery(masks, number_of_core, core);
             plain
         }
         Err(AllocError) => unreachable!(),
@@ -138,7 +138,7 @@ fn deliver_to_core(
 /// was. Where `waits` is set the message is held, and no line need leave for it. What this calls takes the part alone,
 /// so that a program has it once: of what is generic over the history each crate that names a machine has its own copy.
 #[inline(always)]
-pub(crate) fn deliver(
+pub(crate) fn deliver_message(
     flight: &mut InFlight,
     number: MsgNo,
     cores: &mut Vec<Core>,
@@ -186,7 +186,7 @@ pub(crate) fn deliver(
         }
         Node::Bank(bank) => {
             let bank = &mut banks[bank as usize];
-            if let Some(is_waiting) = held_request(bank, message) {
+            if let Some(is_waiting) = held_request_awaits_line(bank, message) {
                 *waits = is_waiting;
                 flight.seek(number);
                 return Ok(PlainAnswer::Held);
@@ -195,7 +195,7 @@ pub(crate) fn deliver(
         }
         Node::Dram(bank) => {
             let dram = &mut drams[bank as usize];
-            deliver_to(dram, flight, is_stopped, number)
+            deliver_to_part(dram, flight, is_stopped, number)
         }
     }
 }

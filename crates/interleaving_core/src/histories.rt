@@ -74,7 +74,7 @@ impl History for KeptHistory {
     ghost room = { λ a. vec_capacity a.records };
 
     fn open(alloc: Global, cores: u32) -> Result<KeptHistory, AllocError> {
-        let issued = no_operations(alloc, cores)?;
+        let issued = empty_op_lists(alloc, cores)?;
         Ok(KeptHistory {
             issued,
             records: Vec::new(alloc),
@@ -82,13 +82,13 @@ impl History for KeptHistory {
     }
 
     fn clear(&mut self, _cores: u32) {
-        clear_operations(&mut self.issued);
+        clear_op_lists(&mut self.issued);
         self.records.clear();
     }
 
     #[inline(always)]
     fn issue(&mut self, core: usize, op: &Op, more: usize) -> Result<(), AllocError> {
-        reserve(&mut self.records, more)?;
+        reserve_records(&mut self.records, more)?;
         self.issued[core].push(op)
     }
 
@@ -116,7 +116,7 @@ impl History for KeptHistory {
 }
 
 // Reserves capacity for this many more records.
-fn reserve(records: &mut Vec<Record>, more: usize) -> Result<(), AllocError>
+fn reserve_records(records: &mut Vec<Record>, more: usize) -> Result<(), AllocError>
     ensures items { records.new.items ≡ records.old.items }
     ensures ok { OnOk result (length records.new.items + more ≤ vec_capacity records.new) }
     ensures capacity { vec_capacity records.old ≤ vec_capacity records.new }
@@ -125,7 +125,7 @@ fn reserve(records: &mut Vec<Record>, more: usize) -> Result<(), AllocError>
 }
 
 // No operations, of so many cores.
-fn no_operations(alloc: Global, cores: u32) -> Result<Vec<OpList>, AllocError>
+fn empty_op_lists(alloc: Global, cores: u32) -> Result<Vec<OpList>, AllocError>
     ensures { IfOk result (λ issued. issued.items ≡ replicate cores []) }
 {
     let mut issued = Vec::new(alloc);
@@ -136,7 +136,7 @@ fn no_operations(alloc: Global, cores: u32) -> Result<Vec<OpList>, AllocError>
 }
 
 // No operations of any core.
-fn clear_operations(issued: &mut Vec<OpList>)
+fn clear_op_lists(issued: &mut Vec<OpList>)
     ensures { issued.new.items ≡ replicate (length issued.old.items) [] }
 {
     for at in 0..issued.len() {

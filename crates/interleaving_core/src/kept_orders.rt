@@ -8,7 +8,7 @@ use llc_bank::Bank;
 use std::alloc::AllocError;
 
 // All cores keep the lines of their copies in order.
-fn keep_in_cores(cores: &mut [Core]) -> Result<(), AllocError>
+fn keep_line_order_in_cores(cores: &mut [Core]) -> Result<(), AllocError>
     ensures { cores.new ≡ cores.old }
 {
     for at in 0..cores.len() {
@@ -18,7 +18,7 @@ fn keep_in_cores(cores: &mut [Core]) -> Result<(), AllocError>
 }
 
 // No core keeps them so.
-fn forget_in_cores(cores: &mut [Core])
+fn forget_line_order_in_cores(cores: &mut [Core])
     ensures { cores.new ≡ cores.old }
 {
     for at in 0..cores.len() {
@@ -27,7 +27,7 @@ fn forget_in_cores(cores: &mut [Core])
 }
 
 // No core keeps them so, and their memory stays.
-fn pause_in_cores(cores: &mut [Core])
+fn pause_line_order_in_cores(cores: &mut [Core])
     ensures { cores.new ≡ cores.old }
 {
     for at in 0..cores.len() {
@@ -36,7 +36,7 @@ fn pause_in_cores(cores: &mut [Core])
 }
 
 // All banks keep the lines that nothing is under way for in order.
-fn keep_in_banks(banks: &mut [Bank]) -> Result<(), AllocError>
+fn keep_line_order_in_banks(banks: &mut [Bank]) -> Result<(), AllocError>
     ensures { banks.new ≡ banks.old }
 {
     for at in 0..banks.len() {
@@ -46,7 +46,7 @@ fn keep_in_banks(banks: &mut [Bank]) -> Result<(), AllocError>
 }
 
 // No bank keeps them so.
-fn forget_in_banks(banks: &mut [Bank])
+fn forget_line_order_in_banks(banks: &mut [Bank])
     ensures { banks.new ≡ banks.old }
 {
     for at in 0..banks.len() {
@@ -55,7 +55,7 @@ fn forget_in_banks(banks: &mut [Bank])
 }
 
 // No bank keeps them so, and their memory stays.
-fn pause_in_banks(banks: &mut [Bank])
+fn pause_line_order_in_banks(banks: &mut [Bank])
     ensures { banks.new ≡ banks.old }
 {
     for at in 0..banks.len() {
@@ -68,23 +68,23 @@ impl<H: History> MachineState<H> {
     pub(crate) fn keep_order(&mut self) -> Result<(), AllocError>
         ensures { self.new ≡ self.old }
     {
-        keep_in_cores(&mut self.cores)?;
-        keep_in_banks(&mut self.banks)
+        keep_line_order_in_cores(&mut self.cores)?;
+        keep_line_order_in_banks(&mut self.banks)
     }
 
     // No part keeps them so, and the memory for that stays.
     pub(crate) fn pause_order(&mut self)
         ensures { self.new ≡ self.old }
     {
-        pause_in_cores(&mut self.cores);
-        pause_in_banks(&mut self.banks);
+        pause_line_order_in_cores(&mut self.cores);
+        pause_line_order_in_banks(&mut self.banks);
     }
 
     // No part keeps them so.
     pub(crate) fn forget_order(&mut self)
         ensures { self.new ≡ self.old }
     {
-        forget_in_cores(&mut self.cores);
-        forget_in_banks(&mut self.banks);
+        forget_line_order_in_cores(&mut self.cores);
+        forget_line_order_in_banks(&mut self.banks);
     }
 }

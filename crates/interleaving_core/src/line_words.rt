@@ -76,7 +76,7 @@ impl<H: History> MachineState<H> {
             Body::ExRep(timed) => Some(timed.words),
             Body::FlushRep(timed) => Some(timed.words),
             Body::WbRep(timed) => Some(timed.words),
-            Body::UpgradeRep { .. } => self.cached_words(core_of(message.to), line),
+            Body::UpgradeRep { .. } => self.cached_words(core_of_node(message.to), line),
             _ => None,
         }
     }
@@ -152,7 +152,7 @@ fn owned_words(core: &Core, line: LineNo) -> Option<Words>
 }
 
 // The core that a node is, 0 where it is none.
-fn core_of(node: Node) -> u32
+fn core_of_node(node: Node) -> u32
     ensures { result ≡ core_of node }
 {
     match node {

@@ -47,7 +47,7 @@ impl<H: History> MachineState<H> {
     }
 
     // The message in flight of a number.
-    pub(crate) fn look(&self, number: MsgNo) -> Option<&Message>
+    pub(crate) fn message_in_flight(&self, number: MsgNo) -> Option<&Message>
         ensures { option_copied result ≡ at_number number self.now.mail.messages }
     {
         self.flight.look(number)
@@ -130,12 +130,12 @@ impl<H: History> MachineState<H> {
         if !is_request(&message.body) {
             return None;
         }
-        self.room_at(message.line, message.to)
+        self.victim_in_bank(message.line, message.to)
     }
 
     // The line to evict from a bank for a line that waits for room there.
     #[inline(always)]
-    fn room_at(&self, line: LineNo, to: Node) -> Option<(u32, LineNo)>
+    fn victim_in_bank(&self, line: LineNo, to: Node) -> Option<(u32, LineNo)>
         ensures { result ≡ room_at self.now line to }
     {
         let Node::Bank(bank) = to else {

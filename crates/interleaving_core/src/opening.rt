@@ -6,7 +6,7 @@ ghost use Rattle.machine_table.specs.Opening.{at_start, bank_config, core_config
 ghost use Rattle.machine_table.specs.Opening.{geometry};
 ghost use Rattle.interleaving_core.specs.OpeningWords.{word_set};
 
-use crate::core_masks::all_idle;
+use crate::core_masks::idle_core_masks;
 use crate::histories::History;
 use crate::machine_state::MachineState;
 use core_pts::{Core, CoreConfig};
@@ -43,7 +43,7 @@ impl<H: History> MachineState<H> {
             flight,
             history,
             is_stopped: false,
-            masks: all_idle(config.cores),
+            masks: idle_core_masks(config.cores),
         })
     }
 }
@@ -56,7 +56,7 @@ fn open_cores(alloc: Global, config: Config) -> Result<Vec<Core>, AllocError>
     let mut cores = Vec::new(alloc);
     for number in 0..config.cores {
         let core = core_config(config, number);
-        cores.push(Core::new(alloc, core, geometry(config))?)?;
+        cores.push(Core::new(alloc, core, private_cache_geometry(config))?)?;
     }
     Ok(cores)
 }
@@ -76,7 +76,7 @@ pub(crate) fn core_config(config: Config, number: u32) -> CoreConfig
 }
 
 /// The shape of each private cache.
-pub(crate) fn geometry(config: Config) -> Geometry
+pub(crate) fn private_cache_geometry(config: Config) -> Geometry
     ensures { result ≡ geometry config }
 {
     Geometry {
@@ -135,7 +135,7 @@ pub(crate) fn fill_drams(
 {
     let mut words = memory.words()?;
     while let Some(word) = words.pop() {
-        set_word(drams, config, word.0, word.1)?;
+        set_dram_word(drams, config, word.0, word.1)?;
     }
     Ok(())
 }
@@ -152,7 +152,7 @@ fn empty_drams(alloc: Global, banks: u32) -> Result<Vec<Dram>, AllocError>
 }
 
 // Sets a word of the opening memory in the DRAM of its line's bank.
-fn set_word(
+fn set_dram_word(
     drams: &mut Vec<Dram>,
     config: Config,
     addr: WordAddr,

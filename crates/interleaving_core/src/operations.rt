@@ -11,7 +11,7 @@ ghost use Rattle.interleaving_core.specs.PartChanges.{answer_of, applied, applie
 ghost use Rattle.interleaving_core.specs.Endpoints.{BackHasEndpoints, EvictedHasEndpoints, is_sent_back};
 
 use crate::plain_answer::PlainAnswer;
-use crate::reactions::send;
+use crate::reactions::send_message;
 use core_pts::{Attempt, Core, nothing_completed_keeps};
 use llc_bank::{Bank, Evict, EvictError};
 use machine_table::{Answer, Refusal};
@@ -22,7 +22,12 @@ use timestamp_manager::Exhausted;
 
 /// A core of this number attempts its open operation, after `count` completed operations. It is too large to be placed
 /// in line where it is called more than once, and `MachineState::attempt`, which is generic, is there more than once.
-pub(crate) fn attempt(core: &mut Core, flight: &mut InFlight, number: u32, count: usize) -> Answer
+pub(crate) fn attempt_open_operation(
+    core: &mut Core,
+    flight: &mut InFlight,
+    number: u32,
+    count: usize,
+) -> Answer
     requires number { core.old.number < flight.old.cores }
     requires banks { core.old.banks ≡ flight.old.banks }
     ensures done { (result, core.new, flight.new.mail) ≡ applied_attempt number count
@@ -45,10 +50,10 @@ pub(crate) fn attempt(core: &mut Core, flight: &mut InFlight, number: u32, count
             number: count as u64,
         }),
         Ok(Attempt::NeedShared(pts, version)) => {
-            answer_to(request(core, flight, &op, Body::ShReq { pts, version }))
+            answer_after_request(send_core_request(core, flight, &op, Body::ShReq { pts, version }))
         }
         Ok(Attempt::NeedExclusive(version)) => {
-            answer_to(request(core, flight, &op, Body::ExReq { version }))
+            answer_after_request(send_core_request(core, flight, &op, Body::ExReq { version }))
         }
         Ok(Attempt::NoRoom) => Answer::Refused(Refusal::NoRoom),
         Ok(Attempt::Waiting) => Answer::Waiting,
@@ -58,7 +63,7 @@ pub(crate) fn attempt(core: &mut Core, flight: &mut InFlight, number: u32, count
 
 // What an attempt is answered that needs a request, by whether it was sent.
 #[inline(always)]
-fn answer_to(sent: bool) -> Answer
+fn answer_after_request(sent: bool) -> Answer
     ensures { result ≡ request_answer sent }
 {
     if sent {
@@ -69,7 +74,7 @@ fn answer_to(sent: bool) -> Answer
 
 /// A core asks the bank of an operation's line, if there is capacity for the request.
 #[inline(always)]
-fn request(core: &mut Core, flight: &mut InFlight, op: &Op, body: Body) -> bool
+fn send_core_request(core: &mut Core, flight: &mut InFlight, op: &Op, body: Body) -> bool
     requires request { IsTrue (is_request body) }
     requires number { core.old.number < flight.old.cores }
     requires banks { core.old.banks ≡ flight.old.banks }
@@ -81,14 +86,14 @@ fn request(core: &mut Core, flight: &mut InFlight, op: &Op, body: Body) -> bool
         return false;
     }
     let message = core.to_bank(core.line_of(*op), body);
-    send(flight, message);
+    send_message(flight, message);
     core.requested();
     true
 }
 
 /// A core advances its time by one.
 #[inline(always)]
-pub(crate) fn advance(core: &mut Core) -> PlainAnswer
+pub(crate) fn advance_core_time(core: &mut Core) -> PlainAnswer
     ensures { (capacity : ℕ) (mail : Mail) → (answer_of result, core.new, mail) ≡
         applied capacity core.old mail None (advanced (advance core.old)) }
 {
@@ -108,7 +113,7 @@ pub(crate) fn evict_copy(core: &mut Core, flight: &mut InFlight, line: LineNo) -
     ensures set_up { SameNetwork flight.old flight.new }
 {
     if !flight.has_capacity() {
-        if sends_back(core, line) {
+        if eviction_returns_line(core, line) {
             return PlainAnswer::Refused(Refusal::NetworkFull);
         }
     }
@@ -118,7 +123,7 @@ pub(crate) fn evict_copy(core: &mut Core, flight: &mut InFlight, line: LineNo) -
         Err(CacheError::Pinned) => PlainAnswer::Refused(Refusal::Pinned),
         Ok(None) => PlainAnswer::Evicted,
         Ok(Some(back)) => {
-            send(flight, back);
+            send_message(flight, back);
             PlainAnswer::Evicted
         }
     }
@@ -143,18 +148,18 @@ pub(crate) fn evict_entry(bank: &mut Bank, flight: &mut InFlight, line: LineNo) 
         Err(EvictError::Busy) => PlainAnswer::Refused(Refusal::Busy),
         Ok(Evict::Clean) => PlainAnswer::Evicted,
         Ok(Evict::Stored(store)) => {
-            send(flight, store);
+            send_message(flight, store);
             PlainAnswer::Evicted
         }
         Ok(Evict::Recalled(recall)) => {
-            send(flight, recall);
+            send_message(flight, recall);
             PlainAnswer::Recalled
         }
     }
 }
 
 // Whether an eviction of a line's copy sends it back.
-fn sends_back(core: &Core, line: LineNo) -> bool
+fn eviction_returns_line(core: &Core, line: LineNo) -> bool
     ensures { result ≡ is_sent_back (evict core.now line).0 }
 {
     let Some(copy) = core.copy(line) else {

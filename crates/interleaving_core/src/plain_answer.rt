@@ -4,7 +4,7 @@ ghost use Rattle.interleaving_core.specs.PartChanges.{answer_in, answer_of, plai
 
 use crate::histories::History;
 use crate::machine_state::MachineState;
-use crate::records::stop;
+use crate::records::stop_if_exhausted;
 use machine_table::{Answer, Refusal};
 
 /// The answers that have no record. It takes two bytes, where an `Answer`, which may have a record, takes 72. The order
@@ -99,8 +99,8 @@ impl<H: History> MachineState<H> {
 
 /// Stops the machine if times are exhausted.
 #[inline(always)]
-pub(crate) fn stop_after(is_stopped: &mut bool, plain: PlainAnswer)
+pub(crate) fn stop_after_plain_answer(is_stopped: &mut bool, plain: PlainAnswer)
     ensures { is_stopped.new ≡ (stops (answer_of plain) || is_stopped.old) }
 {
-    stop(is_stopped, &answer_of(plain));
+    stop_if_exhausted(is_stopped, &answer_of(plain));
 }

@@ -19,7 +19,7 @@ use std::alloc::AllocError;
 /// Exhausted times stop the machine. An error leaves all as it was. The compiler sets what a function keeps on its
 /// stack to zeros where that begins, also where it is inlined: so a delivery does so for the response of one part
 /// alone.
-pub(crate) fn deliver_to<P: Part>(
+pub(crate) fn deliver_to_part<P: Part>(
     part: &mut P,
     flight: &mut InFlight,
     is_stopped: &mut bool,
@@ -50,7 +50,7 @@ pub(crate) fn deliver_to<P: Part>(
     let Some(message) = flight.look(number) else {
         unreachable!()
     };
-    if !can_answer(part, flight, message) {
+    if !can_send_reaction(part, flight, message) {
         return Ok(PlainAnswer::Refused(Refusal::NetworkFull));
     }
     match part.deliver(message) {
@@ -60,8 +60,8 @@ pub(crate) fn deliver_to<P: Part>(
             Ok(PlainAnswer::Refused(Refusal::Exhausted))
         }
         Ok(reaction) => {
-            let delivery = delivery_of(&reaction);
-            settle(flight, number, reaction);
+            let delivery = answer_of_reaction(&reaction);
+            apply_reaction_to_flight(flight, number, reaction);
             Ok(delivery)
         }
     }
@@ -69,7 +69,7 @@ pub(crate) fn deliver_to<P: Part>(
 
 // Whether what a part would send can be sent. Where one more message can be sent, the part isn't asked what it would.
 #[inline(always)]
-fn can_answer<P: Part>(part: &P, flight: &InFlight, message: &Message) -> bool
+fn can_send_reaction<P: Part>(part: &P, flight: &InFlight, message: &Message) -> bool
     requires { IsTrue (P.has_case part.now message.now) }
     ensures { result ≡ can_send flight.now.capacity flight.now.mail
         (sent_by (P.table part.now message.now)) }
@@ -94,7 +94,7 @@ fn can_send(flight: &InFlight, sends: Option<(Node, bool)>) -> bool
 
 // What a reaction to a delivered message is answered. It stops no machine.
 #[inline(always)]
-fn delivery_of(reaction: &Reaction) -> PlainAnswer
+fn answer_of_reaction(reaction: &Reaction) -> PlainAnswer
     ensures answer { (mail : Mail) (n : ℕ) →
         answer_of result ≡ (settled_answer mail n reaction.now).0 }
     ensures goes_on { stops (answer_of result) ≡ false }
@@ -109,7 +109,7 @@ fn delivery_of(reaction: &Reaction) -> PlainAnswer
 
 // What becomes of the messages in flight after a reaction to a delivered one. A message that stays is looked up soon.
 #[inline(always)]
-fn settle(flight: &mut InFlight, number: MsgNo, reaction: Reaction)
+fn apply_reaction_to_flight(flight: &mut InFlight, number: MsgNo, reaction: Reaction)
     requires there { IsSome (at_number number flight.old.mail.messages) }
     requires endpoints { SendsWithEndpoints flight.old.cores flight.old.banks reaction }
     requires capacity { IsTrue (can_send flight.old.capacity flight.old.mail (sent_in reaction)) }
@@ -118,11 +118,11 @@ fn settle(flight: &mut InFlight, number: MsgNo, reaction: Reaction)
 {
     match reaction {
         Reaction::Held => flight.seek(number),
-        Reaction::Dropped => take(flight, number),
-        Reaction::Done(None) => take(flight, number),
-        Reaction::Done(Some(reply)) => answer(flight, number, reply),
+        Reaction::Dropped => take_message(flight, number),
+        Reaction::Done(None) => take_message(flight, number),
+        Reaction::Done(Some(reply)) => send_in_its_place(flight, number, reply),
         Reaction::HeldAfter(started) => {
-            send(flight, started);
+            send_message(flight, started);
             flight.seek(number);
         }
     }
@@ -130,7 +130,7 @@ fn settle(flight: &mut InFlight, number: MsgNo, reaction: Reaction)
 
 /// Sends a message for which there is capacity.
 #[inline(always)]
-pub(crate) fn send(flight: &mut InFlight, message: Message)
+pub(crate) fn send_message(flight: &mut InFlight, message: Message)
     requires endpoints { IsTrue (has_endpoints flight.old.cores flight.old.banks message) }
     requires capacity { IsTrue (has_capacity flight.old.capacity flight.old.mail) }
     ensures { IsWithMail (sent flight.old.mail message) flight.old flight.new }
@@ -143,7 +143,7 @@ pub(crate) fn send(flight: &mut InFlight, message: Message)
 
 /// Takes a message that is in flight.
 #[inline(always)]
-pub(crate) fn take(flight: &mut InFlight, number: MsgNo)
+pub(crate) fn take_message(flight: &mut InFlight, number: MsgNo)
     ensures { IsWithMail (taken flight.old.mail number) flight.old flight.new }
 {
     let _there = flight.remove(number);
@@ -151,7 +151,7 @@ pub(crate) fn take(flight: &mut InFlight, number: MsgNo)
 
 // Takes a message that is in flight, and sends another in its place.
 #[inline(always)]
-fn answer(flight: &mut InFlight, number: MsgNo, message: Message)
+fn send_in_its_place(flight: &mut InFlight, number: MsgNo, message: Message)
     requires there { IsSome (at_number number flight.old.mail.messages) }
     requires endpoints { IsTrue (has_endpoints flight.old.cores flight.old.banks message) }
     requires number { IsTrue (has_number flight.old.mail) }

@@ -7,7 +7,7 @@ use machine_table::{Answer, Refusal};
 
 /// Adds the record of a completion, for which there is room.
 #[inline(always)]
-pub(crate) fn keep<H: History>(history: &mut H, answer: &Answer)
+pub(crate) fn add_completed_record<H: History>(history: &mut H, answer: &Answer)
     requires { length (with_record (H.records history.old) answer.now) ≤ H.room history.old }
     ensures issued { H.issued history.new ≡ H.issued history.old }
     ensures records { H.records history.new ≡ with_record (H.records history.old) answer.now }
@@ -20,7 +20,7 @@ pub(crate) fn keep<H: History>(history: &mut H, answer: &Answer)
 
 /// Stops the machine if times are exhausted.
 #[inline(always)]
-pub(crate) fn stop(is_stopped: &mut bool, answer: &Answer)
+pub(crate) fn stop_if_exhausted(is_stopped: &mut bool, answer: &Answer)
     ensures { is_stopped.new ≡ (stops answer.now || is_stopped.old) }
 {
     if let Answer::Refused(Refusal::Exhausted) = answer {

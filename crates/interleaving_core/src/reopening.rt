@@ -4,10 +4,10 @@ ghost use Rattle.std.specs.FinMap.{empty, entries};
 ghost use Rattle.machine_table.specs.SetUp.{is_good};
 ghost use Rattle.machine_table.specs.Opening.{at_start, dram_of, open_bank, open_core, row};
 
-use crate::core_masks::all_idle;
+use crate::core_masks::idle_core_masks;
 use crate::histories::History;
 use crate::machine_state::MachineState;
-use crate::opening::{bank_config, core_config, fill_drams, geometry};
+use crate::opening::{bank_config, core_config, fill_drams, private_cache_geometry};
 use core_pts::Core;
 use dram_mts::Dram;
 use llc_bank::Bank;
@@ -43,7 +43,7 @@ impl<H: History> MachineState<H> {
             flight,
             history,
             is_stopped: false,
-            masks: all_idle(config.cores),
+            masks: idle_core_masks(config.cores),
         })
     }
 }
@@ -78,7 +78,10 @@ fn reopen_cores(cores: &mut Vec<Core>, config: Config) -> Result<(), AllocError>
     ensures { OnOk result (cores.new.items ≡ row (open_core config) 0 config.cores) }
 {
     for at in 0..cores.len() {
-        cores[at].reopen(core_config(config, at as u32), geometry(config))?;
+        cores[at].reopen(
+            core_config(config, at as u32),
+            private_cache_geometry(config),
+        )?;
     }
     Ok(())
 }

@@ -6,13 +6,13 @@ ghost use Rattle.interleaving_core.specs.LookUps.{delivery_waits, make_room, mes
 ghost use Rattle.interleaving_core.specs.PartChanges.{answer_in, answer_of};
 ghost use Rattle.interleaving_core.specs.StepAnswers.{Stepped, TakesMemory, asks_memory};
 
-use crate::core_masks::{note, note_attempt};
-use crate::deliveries::deliver;
+use crate::core_masks::{update_core_masks, update_masks_after_attempt};
+use crate::deliveries::deliver_message;
 use crate::histories::History;
 use crate::machine_state::MachineState;
 use crate::operations;
-use crate::plain_answer::{PlainAnswer, plain_of, stop_after};
-use crate::records::{keep, stop};
+use crate::plain_answer::{PlainAnswer, plain_of, stop_after_plain_answer};
+use crate::records::{add_completed_record, stop_if_exhausted};
 use machine_table::{Answer, Event, Refusal};
 use network::{LineNo, MsgNo};
 use physiological_order::Op;
@@ -40,7 +40,7 @@ impl<H: History> MachineState<H> {
         }
         self.history.issue(at, &op, self.cores.len())?;
         let _issued = self.cores[at].issue(op);
-        note(&mut self.masks, core, &self.cores[at]);
+        update_core_masks(&mut self.masks, core, &self.cores[at]);
         Ok(PlainAnswer::Issued)
     }
 
@@ -58,10 +58,15 @@ impl<H: History> MachineState<H> {
             return Some(PlainAnswer::Refused(Refusal::NoSuch));
         }
         let count = self.history.count();
-        let answer = operations::attempt(&mut self.cores[at], &mut self.flight, core, count);
-        note_attempt(&mut self.masks, core, &answer);
-        keep(&mut self.history, &answer);
-        stop(&mut self.is_stopped, &answer);
+        let answer = operations::attempt_open_operation(
+            &mut self.cores[at],
+            &mut self.flight,
+            core,
+            count,
+        );
+        update_masks_after_attempt(&mut self.masks, core, &answer);
+        add_completed_record(&mut self.history, &answer);
+        stop_if_exhausted(&mut self.is_stopped, &answer);
         plain_of(&answer)
     }
 
@@ -74,8 +79,8 @@ impl<H: History> MachineState<H> {
         if at >= self.cores.len() {
             return PlainAnswer::Refused(Refusal::NoSuch);
         }
-        let plain = operations::advance(&mut self.cores[at]);
-        stop_after(&mut self.is_stopped, plain);
+        let plain = operations::advance_core_time(&mut self.cores[at]);
+        stop_after_plain_answer(&mut self.is_stopped, plain);
         plain
     }
 
@@ -90,7 +95,7 @@ impl<H: History> MachineState<H> {
             return PlainAnswer::Refused(Refusal::NoSuch);
         }
         let plain = operations::evict_copy(&mut self.cores[at], &mut self.flight, line);
-        stop_after(&mut self.is_stopped, plain);
+        stop_after_plain_answer(&mut self.is_stopped, plain);
         plain
     }
 
@@ -105,7 +110,7 @@ impl<H: History> MachineState<H> {
             return PlainAnswer::Refused(Refusal::NoSuch);
         }
         let plain = operations::evict_entry(&mut self.banks[at], &mut self.flight, line);
-        stop_after(&mut self.is_stopped, plain);
+        stop_after_plain_answer(&mut self.is_stopped, plain);
         plain
     }
 
@@ -124,7 +129,7 @@ impl<H: History> MachineState<H> {
         ensures waits { waits.new ≡ message_waits self.old number }
         ensures told { IsTrue waits.new → make_room self.new number ≡ None }
     {
-        deliver(
+        deliver_message(
             &mut self.flight,
             number,
             &mut self.cores,
@@ -197,7 +202,7 @@ impl<H: History> MachineState<H> {
 
     // What the table answers to an event, if there is memory for it.
     #[inline(always)]
-    fn answer(&mut self, event: Event) -> Result<Option<PlainAnswer>, AllocError>
+    fn answer_event(&mut self, event: Event) -> Result<Option<PlainAnswer>, AllocError>
         requires { Invariant self.old }
         ensures done { IfOk result (λ plain. (answer_in self.new.records plain, self.new) ≡
             transition self.old event) }
@@ -230,7 +235,7 @@ impl<H: History> MachineState<H> {
             IsTrue (asks_memory self.old event) }
         ensures completed { result ≡ None → 0 < length self.new.records }
     {
-        match self.answer(event) {
+        match self.answer_event(event) {
             Ok(plain) => plain,
             Err(AllocError) => Some(PlainAnswer::Refused(Refusal::NoMemory)),
         }

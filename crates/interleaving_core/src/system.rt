@@ -221,7 +221,7 @@ impl<H: History> System<H> {
         let mut answers = Vec::with_capacity(self.state.allocator(), events.len())?;
         for event in events {
             let answer = self.step(*event);
-            add(&mut answers, answer);
+            add_answer(&mut answers, answer);
         }
         Ok(answers)
     }
@@ -491,7 +491,7 @@ impl<H: History> System<H> {
     pub fn look(&self, number: MsgNo) -> Option<&Message>
         ensures { option_copied result ≡ at_number number self.now.mail.messages }
     {
-        self.state.look(number)
+        self.state.message_in_flight(number)
     }
 
     /// How many messages are in flight.
@@ -543,7 +543,7 @@ impl<H: History> System<H> {
 }
 
 // An answer is added for which there is a place.
-fn add(answers: &mut Vec<Answer>, answer: Answer)
+fn add_answer(answers: &mut Vec<Answer>, answer: Answer)
     requires { length answers.old.items < vec_capacity answers.old }
     ensures items { answers.new.items ≡ answers.old.items ++ answer ∷ [] }
     ensures capacity { vec_capacity answers.new ≡ vec_capacity answers.old }

@@ -96,7 +96,7 @@ impl<T> Arena<T> {
         ensures refused { IfErr result (λ x. (x ≡ item) × (self.new ≡ self.old)) }
         ensures full { IsErr result ↔ (free_cells self.old ≡ 0) }
     {
-        match self.chains.take_free() {
+        match self.chains.take_free_cell() {
             None => Err(item),
             Some(cell) => {
                 let before = self.chains.fill(list, cell, item);

@@ -31,7 +31,7 @@ pub struct Chains<T> {
 
 /// Writes what comes after a cell. The end of a list has the first cell, which stands in the head.
 #[inline(always)]
-fn set_next<T>(block: &mut Block<Node<T>>, head: &mut Head, capacity: u32, cell: u32, to: u32)
+fn set_next_cell<T>(block: &mut Block<Node<T>>, head: &mut Head, capacity: u32, cell: u32, to: u32)
     requires { cell < capacity → IsFilled block.old cell }
     ensures block { block.new ≡ edit capacity (with_next to) block.old cell }
     ensures head { head.new ≡ record head.old {
@@ -47,7 +47,13 @@ fn set_next<T>(block: &mut Block<Node<T>>, head: &mut Head, capacity: u32, cell:
 
 /// Writes what comes before a cell. The end of a list has the last cell, which stands in the head.
 #[inline(always)]
-fn set_prev<T>(block: &mut Block<Node<T>>, head: &mut Head, capacity: u32, cell: u32, to: u32)
+fn set_previous_cell<T>(
+    block: &mut Block<Node<T>>,
+    head: &mut Head,
+    capacity: u32,
+    cell: u32,
+    to: u32,
+)
     requires { cell < capacity → IsFilled block.old cell }
     ensures block { block.new ≡ edit capacity (with_prev to) block.old cell }
     ensures head { head.new ≡ record head.old {
@@ -63,7 +69,7 @@ fn set_prev<T>(block: &mut Block<Node<T>>, head: &mut Head, capacity: u32, cell:
 
 /// Writes all links of a cell.
 #[inline(always)]
-fn set_links<T>(block: &mut Block<Node<T>>, cell: u32, prev: u32, next: u32, list: u32)
+fn set_cell_links<T>(block: &mut Block<Node<T>>, cell: u32, prev: u32, next: u32, list: u32)
     requires { IsFilled block.old cell }
     ensures { block.new ≡ slice_set block.old cell
         (Some (node prev next list (at block.old cell).item)) }
@@ -76,7 +82,7 @@ fn set_links<T>(block: &mut Block<Node<T>>, cell: u32, prev: u32, next: u32, lis
 
 /// Writes the value of a cell, and gives what it had.
 #[inline(always)]
-fn set_item<T>(block: &mut Block<Node<T>>, cell: u32, item: T) -> Option<T>
+fn set_cell_value<T>(block: &mut Block<Node<T>>, cell: u32, item: T) -> Option<T>
     requires { IsFilled block.old cell }
     ensures value { result ≡ (at block.old cell).item }
     ensures after { block.new ≡ with_value_of block.old cell item }
@@ -86,7 +92,7 @@ fn set_item<T>(block: &mut Block<Node<T>>, cell: u32, item: T) -> Option<T>
 
 /// Takes the value of a cell out of it, and writes the next free cell and the number of lists.
 #[inline(always)]
-fn set_free<T>(block: &mut Block<Node<T>>, cell: u32, next: u32, lists: u32) -> Option<T>
+fn set_cell_free<T>(block: &mut Block<Node<T>>, cell: u32, next: u32, lists: u32) -> Option<T>
     requires { IsFilled block.old cell }
     ensures value { result ≡ (at block.old cell).item }
     ensures after { block.new ≡ slice_set block.old cell
@@ -99,7 +105,7 @@ fn set_free<T>(block: &mut Block<Node<T>>, cell: u32, next: u32, lists: u32) -> 
 }
 
 /// The heads of empty lists. The end of the first one has the number `end`.
-fn empty_heads(alloc: Global, end: u32, count: u32) -> Result<Vec<Head>, AllocError>
+fn heads_of_empty_lists(alloc: Global, end: u32, count: u32) -> Result<Vec<Head>, AllocError>
     requires { end + count < 2 ^ 32 }
     ensures { IfOk result (λ v. AreEmpty end count v.items) }
 {
@@ -129,7 +135,7 @@ impl<T> Chains<T> {
         ensures empty { IfOk result (λ c. (rings_of c ≡ replicate lists []) ×
             (total c.heads.items ≡ 0)) }
     {
-        let heads = empty_heads(alloc, cells, lists)?;
+        let heads = heads_of_empty_lists(alloc, cells, lists)?;
         let block = Block::new(alloc, cells as usize)?;
         Ok(Chains {
             block,
@@ -209,7 +215,7 @@ impl<T> Chains<T> {
 
     /// Takes a cell off its list. The node stays in the block, with what it holds.
     #[inline(always)]
-    fn unhook(&mut self, cell: u32)
+    fn unlink_node(&mut self, cell: u32)
         requires tied { IsTied self.old }
         requires cell { IsFilled self.old.block cell }
         requires on { (at self.old.block cell).list < length self.old.heads.items }
@@ -221,16 +227,16 @@ impl<T> Chains<T> {
             IsFilled self.new.block cell }
         ensures sizes { SameSizes self.old self.new }
     {
-        let links = self.position(cell);
+        let links = self.position_of_cell(cell);
         let head = &mut self.heads[links.list as usize];
-        set_next(&mut self.block, head, self.capacity, links.prev, links.next);
-        set_prev(&mut self.block, head, self.capacity, links.next, links.prev);
+        set_next_cell(&mut self.block, head, self.capacity, links.prev, links.next);
+        set_previous_cell(&mut self.block, head, self.capacity, links.next, links.prev);
         head.count -= 1;
     }
 
     /// Puts a cell whose node is on no list at the end of one. The node stays in the block, with what it holds.
     #[inline(always)]
-    fn hook(&mut self, list: u32, cell: u32)
+    fn link_node_at_end(&mut self, list: u32, cell: u32)
         requires tied { IsTied (emptied cell self.old) }
         requires list { list < length self.old.heads.items }
         requires cell { (cell < self.old.capacity) × IsFilled self.old.block cell }
@@ -246,8 +252,8 @@ impl<T> Chains<T> {
     {
         let head = &mut self.heads[list as usize];
         let last = head.last;
-        set_links(&mut self.block, cell, last, self.capacity + list, list);
-        set_next(&mut self.block, head, self.capacity, last, cell);
+        set_cell_links(&mut self.block, cell, last, self.capacity + list, list);
+        set_next_cell(&mut self.block, head, self.capacity, last, cell);
         head.last = cell;
         head.count += 1;
     }
@@ -263,7 +269,7 @@ impl<T> Chains<T> {
         ensures lists { rings_of (emptied cell self.new) ≡ map (without cell) (rings_of self.old) }
         ensures sizes { SameSizes self.old self.new }
     {
-        self.unhook(cell);
+        self.unlink_node(cell);
     }
 
     /// Puts a cell with a value that is on no list and not free at the end of a list.
@@ -278,7 +284,7 @@ impl<T> Chains<T> {
             self.old)) }
         ensures sizes { (self.new.capacity ≡ self.old.capacity) × (self.new.used ≡ self.old.used) }
     {
-        self.hook(list, cell);
+        self.link_node_at_end(list, cell);
     }
 
     /// Writes the value of a cell that is on no list and not free, and puts it at the end of a list. Gives the value
@@ -293,7 +299,7 @@ impl<T> Chains<T> {
             ≡ append_to list (cell, Some item) (rings_of (emptied cell self.old)) }
         ensures sizes { (self.new.capacity ≡ self.old.capacity) × (self.new.used ≡ self.old.used) }
     {
-        let before = set_item(&mut self.block, cell, item);
+        let before = set_cell_value(&mut self.block, cell, item);
         self.attach(list, cell);
         before
     }
@@ -308,7 +314,7 @@ impl<T> Chains<T> {
         ensures sizes { self.new.capacity ≡ self.old.capacity }
     {
         let lists = self.lists();
-        let item = set_free(&mut self.block, cell, self.free, lists);
+        let item = set_cell_free(&mut self.block, cell, self.free, lists);
         self.free = cell;
         self.spares += 1;
         item
@@ -316,7 +322,7 @@ impl<T> Chains<T> {
 
     /// Where a used cell is.
     #[inline(always)]
-    fn position(&self, cell: u32) -> Position
+    fn position_of_cell(&self, cell: u32) -> Position
         requires { IsFilled self.now.block cell }
         ensures { get_or self.now.block cell None
             ≡ Some (node result.prev result.next result.list (at self.now.block cell).item) }
@@ -331,7 +337,7 @@ impl<T> Chains<T> {
 
     /// A cell that was used and is free.
     #[inline(always)]
-    fn reuse(&mut self) -> u32
+    fn take_used_free_cell(&mut self) -> u32
         requires arena { IsArena self.old }
         requires some { 0 < self.old.spares }
         ensures lacks { IsBlank result self.new }
@@ -346,7 +352,7 @@ impl<T> Chains<T> {
     }
 
     /// A cell that was never used.
-    fn unused(&mut self) -> u32
+    fn take_unused_cell(&mut self) -> u32
         requires arena { IsArena self.old }
         requires some { self.old.used < self.old.capacity }
         ensures lacks { IsBlank result self.new }
@@ -375,7 +381,7 @@ impl<T> Chains<T> {
 
     /// A free cell, if there is one. It isn't free then.
     #[inline(always)]
-    pub(crate) fn take_free(&mut self) -> Option<u32>
+    pub(crate) fn take_free_cell(&mut self) -> Option<u32>
         requires { IsArena self.old }
         ensures lacks { IfSome result (λ x. IsBlank x self.new) }
         ensures same { IfSome result (λ x. (rings_of (emptied x self.new) ≡ rings_of self.old)
@@ -385,10 +391,10 @@ impl<T> Chains<T> {
         ensures used { OnSome result (0 < self.old.spares → self.new.used ≡ self.old.used) }
     {
         if self.spares > 0 {
-            return Some(self.reuse());
+            return Some(self.take_used_free_cell());
         }
         if self.used < self.capacity {
-            return Some(self.unused());
+            return Some(self.take_unused_cell());
         }
         None
     }

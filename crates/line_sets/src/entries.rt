@@ -27,7 +27,7 @@ fn tag_of(line: u64) -> u8
 
 /// How many tags come before the first that is this one: 16 if none is.
 #[inline(always)]
-fn others_before(tags: &[u8; 16], tag: u8) -> usize
+fn count_tags_before(tags: &[u8; 16], tag: u8) -> usize
     ensures { result ≡ prefix_len (λ other. not (other == tag)) tags.now }
 {
     let same = u8x16::from_array(*tags)
@@ -53,25 +53,30 @@ impl Row {
 
     /// The place of a line. It is the first with the line's tag, but where two lines have one tag.
     #[inline(always)]
-    pub(crate) fn place_of<V>(&self, arena: &Arena<(u64, V)>, line: u64) -> Option<usize>
+    pub(crate) fn index_of_line<V>(&self, arena: &Arena<(u64, V)>, line: u64) -> Option<usize>
         requires few { self.now.count ≤ 16 }
         requires cells { (k : ℕ) → k < self.now.count →
             IsSome (look_up (get_or self.now.cells k 0) arena.now.lists) }
         ensures { IsPlaceOf self.now arena.now.lists line result }
     {
         let tag = tag_of(line);
-        let at = others_before(&self.tags, tag);
+        let at = count_tags_before(&self.tags, tag);
         if at >= self.count as usize {
             return None;
         }
         if arena.get(Cell(self.cells[at] as u32)).0 == line {
             return Some(at);
         }
-        self.searched_place_of(arena, line, tag)
+        self.searched_index_of_line(arena, line, tag)
     }
 
     // The place of a line, searched from the last on.
-    fn searched_place_of<V>(&self, arena: &Arena<(u64, V)>, line: u64, tag: u8) -> Option<usize>
+    fn searched_index_of_line<V>(
+        &self,
+        arena: &Arena<(u64, V)>,
+        line: u64,
+        tag: u8,
+    ) -> Option<usize>
         requires tag { tag ≡ tag_of line }
         requires few { self.now.count ≤ 16 }
         requires cells { (k : ℕ) → k < self.now.count →
@@ -104,7 +109,7 @@ impl Row {
 
     /// Takes the line of a place out. The last line takes its place.
     #[inline(always)]
-    pub(crate) fn free(&mut self, at: usize)
+    pub(crate) fn take_line_out(&mut self, at: usize)
         requires { (at < self.old.count) × (self.old.count ≤ 16) }
         ensures { self.new ≡ freed at self.old }
     {

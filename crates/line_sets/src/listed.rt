@@ -25,7 +25,7 @@ pub trait LineTest<V> {
 }
 
 /// How many values this is of those that are listed: one or none.
-pub(crate) fn count_of<V: Listed>(value: &V) -> usize
+pub(crate) fn count_if_listed<V: Listed>(value: &V) -> usize
     ensures count { result ≡ count_of V.is_listed (Some value.now) }
     ensures one { result ≤ 1 }
 {
@@ -34,7 +34,7 @@ pub(crate) fn count_of<V: Listed>(value: &V) -> usize
 
 /// How many values this is of those that aren't listed: one or none.
 #[inline(always)]
-pub(crate) fn uncount_of<V: Listed>(value: &V) -> u8
+pub(crate) fn count_if_unlisted<V: Listed>(value: &V) -> u8
     ensures count { result ≡ count_of (λ x. not (V.is_listed x)) (Some value.now) }
     ensures one { result ≤ 1 }
 {
@@ -43,7 +43,7 @@ pub(crate) fn uncount_of<V: Listed>(value: &V) -> u8
 
 /// Lowers the count of a set by a number, and raises it by another one.
 #[inline(always)]
-pub(crate) fn recount(counts: &mut Vec<u8>, set: usize, before: u8, after: u8)
+pub(crate) fn update_set_count(counts: &mut Vec<u8>, set: usize, before: u8, after: u8)
     requires { CanCount counts.old.items set before after }
     ensures { counts.new.items ≡ slice_set counts.old.items set
         (get_or counts.old.items set 0 - before + after) }
@@ -52,7 +52,7 @@ pub(crate) fn recount(counts: &mut Vec<u8>, set: usize, before: u8, after: u8)
 }
 
 /// The number of a line, if there is one.
-pub(crate) fn number_of(line: Option<LineNo>) -> Option<u64>
+pub(crate) fn number_of_line(line: Option<LineNo>) -> Option<u64>
     ensures { result ≡ line }
 {
     match line {

@@ -71,7 +71,7 @@ impl Rows {
 
     /// The place of a line in the row of its set.
     #[inline(always)]
-    fn place_of<V>(&self, arena: &Arena<(u64, V)>, set: usize, line: u64) -> Option<usize>
+    fn index_of_line<V>(&self, arena: &Arena<(u64, V)>, set: usize, line: u64) -> Option<usize>
         requires in_table { set < length self.now }
         requires many { length self.now ≡ length arena.now.lists }
         requires fits { AreRows self.now arena.now.lists }
@@ -79,18 +79,23 @@ impl Rows {
     {
         looked_up::<(u64, V)>();
         let _lists = arena.lists();
-        self.rows[set].place_of(arena, line)
+        self.rows[set].index_of_line(arena, line)
     }
 
     /// The cell of a line in a set.
     #[inline(always)]
-    pub(crate) fn find<V>(&self, arena: &Arena<(u64, V)>, set: usize, line: u64) -> Option<u32>
+    pub(crate) fn cell_of_line<V>(
+        &self,
+        arena: &Arena<(u64, V)>,
+        set: usize,
+        line: u64,
+    ) -> Option<u32>
         requires in_table { set < length self.now }
         requires many { length self.now ≡ length arena.now.lists }
         requires fits { AreRows self.now arena.now.lists }
         ensures { result ≡ find (tags_of (get_or arena.now.lists set [])) line }
     {
-        match self.place_of(arena, set, line) {
+        match self.index_of_line(arena, set, line) {
             None => None,
             Some(at) => Some(self.rows[set].cells[at] as u32),
         }
@@ -114,7 +119,12 @@ impl Rows {
 
     /// Takes a line out of the row of its set, if it is there, and gives its cell.
     #[inline(always)]
-    pub(crate) fn take<V>(&mut self, arena: &Arena<(u64, V)>, set: usize, line: u64) -> Option<u32>
+    pub(crate) fn take_line<V>(
+        &mut self,
+        arena: &Arena<(u64, V)>,
+        set: usize,
+        line: u64,
+    ) -> Option<u32>
         requires in_table { set < length self.old }
         requires many { length self.old ≡ length arena.now.lists }
         requires fits { AreRows self.old arena.now.lists }
@@ -122,11 +132,11 @@ impl Rows {
         ensures absent { result ≡ None → self.new ≡ self.old }
         ensures cut { IfSome result (λ cell. IsCut self.old set cell self.new) }
     {
-        let Some(at) = self.place_of(arena, set, line) else {
+        let Some(at) = self.index_of_line(arena, set, line) else {
             return None;
         };
         let cell = self.rows[set].cells[at] as u32;
-        self.rows[set].free(at);
+        self.rows[set].take_line_out(at);
         Some(cell)
     }
 }

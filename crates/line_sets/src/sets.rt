@@ -9,14 +9,17 @@ ghost use Rattle.ranked_lines.specs.Rising.{all_but, sorted};
 ghost use Rattle.line_sets.specs.SetTable.{all_listed, drop_line, empty_sets, has_place, has_room, look, put};
 ghost use Rattle.line_sets.specs.SetTable.{put_within, set_at};
 
-use crate::listed::{LineTest, Listed, count_of, line_numbers, number_of, recount, uncount_of};
+use crate::listed::{
+    LineTest, Listed, count_if_listed, count_if_unlisted, line_numbers, number_of_line,
+    update_set_count,
+};
 use crate::rows::Rows;
 use line_arena::laws::{looked_up, taken_off};
 use line_arena::{Arena, ArenaError, Cell};
 use network::LineNo;
 use ranked_lines::RankedLines;
 use ranked_lines::laws::sorted_is_unique;
-use ranked_lines::selection::{leave_out, number_at};
+use ranked_lines::selection::{leave_number_out, nth_smallest_number};
 use std::alloc::{AllocError, Global};
 use std::marker::Model;
 
@@ -125,7 +128,7 @@ impl<V: Copy + Listed> LineSets<V> {
     {
         looked_up::<(u64, V)>();
         let _lists = self.arena.lists();
-        let Some(cell) = self.rows.find(&self.arena, set, line) else {
+        let Some(cell) = self.rows.cell_of_line(&self.arena, set, line) else {
             return None;
         };
         Some(&self.arena.get(Cell(cell)).1)
@@ -186,15 +189,20 @@ impl<V: Copy + Listed> LineSets<V> {
         looked_up::<(u64, V)>();
         taken_off::<(u64, V)>();
         let _lists = self.arena.lists();
-        let Some(cell) = self.rows.find(&self.arena, set, line) else {
+        let Some(cell) = self.rows.cell_of_line(&self.arena, set, line) else {
             self.add(set, line, value);
             return;
         };
         let old = &self.arena.get(Cell(cell)).1;
-        let before = count_of(old);
-        let after = count_of(&value);
+        let before = count_if_listed(old);
+        let after = count_if_listed(&value);
         self.listed = self.listed - before + after;
-        recount(&mut self.unlisted, set, uncount_of(old), uncount_of(&value));
+        update_set_count(
+            &mut self.unlisted,
+            set,
+            count_if_unlisted(old),
+            count_if_unlisted(&value),
+        );
         self.order.change(line, before, after);
         *self.arena.get_mut(Cell(cell)) = (line, value);
         if self.arena.next(Cell(cell)).is_none() {
@@ -216,9 +224,9 @@ impl<V: Copy + Listed> LineSets<V> {
         let cell = pushed.unwrap();
         let _lists = self.arena.lists();
         self.rows.push(set, line, cell.0);
-        let after = count_of(&value);
+        let after = count_if_listed(&value);
         self.listed += after;
-        recount(&mut self.unlisted, set, 0, uncount_of(&value));
+        update_set_count(&mut self.unlisted, set, 0, count_if_unlisted(&value));
         self.order.change(line, 0, after);
     }
 
@@ -231,12 +239,17 @@ impl<V: Copy + Listed> LineSets<V> {
     {
         looked_up::<(u64, V)>();
         let _lists = self.arena.lists();
-        if let Some(cell) = self.rows.find(&self.arena, set, line) {
+        if let Some(cell) = self.rows.cell_of_line(&self.arena, set, line) {
             let old = &self.arena.get(Cell(cell)).1;
-            let before = count_of(old);
-            let after = count_of(&value);
+            let before = count_if_listed(old);
+            let after = count_if_listed(&value);
             self.listed = self.listed - before + after;
-            recount(&mut self.unlisted, set, uncount_of(old), uncount_of(&value));
+            update_set_count(
+                &mut self.unlisted,
+                set,
+                count_if_unlisted(old),
+                count_if_unlisted(&value),
+            );
             self.order.change(line, before, after);
             *self.arena.get_mut(Cell(cell)) = (line, value);
         }
@@ -253,19 +266,19 @@ impl<V: Copy + Listed> LineSets<V> {
         looked_up::<(u64, V)>();
         taken_off::<(u64, V)>();
         let _lists = self.arena.lists();
-        let Some(cell) = self.rows.take(&self.arena, set, line) else {
+        let Some(cell) = self.rows.take_line(&self.arena, set, line) else {
             return None;
         };
         let (_line, value) = self.arena.unlink(Cell(cell));
-        let before = count_of(&value);
+        let before = count_if_listed(&value);
         self.listed -= before;
-        recount(&mut self.unlisted, set, uncount_of(&value), 0);
+        update_set_count(&mut self.unlisted, set, count_if_unlisted(&value), 0);
         self.order.change(line, before, 0);
         Some(value)
     }
 
     /// How many lines of all sets have a value that is listed. No set has a line twice.
-    pub fn listed(&self) -> usize
+    pub fn count_listed_lines(&self) -> usize
         ensures count { result ≡ length (all_listed V.is_listed self.now.sets) }
         ensures once { (set : ℕ) → IsDistinct (set_at self.now.sets set) }
     {
@@ -288,13 +301,13 @@ impl<V: Copy + Listed> LineSets<V> {
         ensures { IfOk result (λ line. slice_get (sorted (all_but but
             (all_listed V.is_listed self.now.sets))) at ≡ Some line) }
     {
-        let but = number_of(but);
+        let but = number_of_line(but);
         if let Some(line) = self.order.nth(&but, at) {
             return Ok(LineNo(line));
         }
-        let mut numbers = self.gathered()?;
-        leave_out(&mut numbers, &but);
-        Ok(LineNo(number_at(&mut numbers, at)))
+        let mut numbers = self.gather_listed_lines()?;
+        leave_number_out(&mut numbers, &but);
+        Ok(LineNo(nth_smallest_number(&mut numbers, at)))
     }
 
     /// Keeps the listed lines in rising order from now on, in blocks of at most 128. `nth_listed` then goes over the
@@ -310,7 +323,7 @@ impl<V: Copy + Listed> LineSets<V> {
         if self.resume_order()? {
             return Ok(());
         }
-        let numbers = self.numbers()?;
+        let numbers = self.listed_line_numbers()?;
         let most = self.sets() * self.ways;
         let order = RankedLines::of(self.rows.allocator(), &numbers, most)?;
         self.order = order;
@@ -321,7 +334,7 @@ impl<V: Copy + Listed> LineSets<V> {
     fn resume_order(&mut self) -> Result<bool, AllocError>
         ensures { self.new ≡ self.old }
     {
-        let lines = self.gathered()?;
+        let lines = self.gather_listed_lines()?;
         let most = self.sets() * self.ways;
         Ok(self.order.resume(&lines, most))
     }
@@ -346,23 +359,23 @@ impl<V: Copy + Listed> LineSets<V> {
         ensures { IfOk result (λ lines.
             lines.items ≡ sorted (all_listed V.is_listed self.now.sets)) }
     {
-        let numbers = self.numbers()?;
+        let numbers = self.listed_line_numbers()?;
         line_numbers(numbers)
     }
 
     // The numbers of these lines, rising.
-    fn numbers(&self) -> Result<Vec<u64>, AllocError>
+    fn listed_line_numbers(&self) -> Result<Vec<u64>, AllocError>
         ensures { IfOk result (λ lines.
             lines.items ≡ sorted (all_listed V.is_listed self.now.sets)) }
     {
         sorted_is_unique();
-        let mut lines = self.gathered()?;
+        let mut lines = self.gather_listed_lines()?;
         lines.sort_unstable();
         Ok(lines)
     }
 
     // The listed lines of all sets, set by set. The sets after the last listed line aren't looked at.
-    fn gathered(&self) -> Result<Vec<u64>, AllocError>
+    fn gather_listed_lines(&self) -> Result<Vec<u64>, AllocError>
         ensures { IfOk result (λ lines. lines.items ≡ all_listed V.is_listed self.now.sets) }
     {
         let mut lines = Vec::new(self.rows.allocator());
@@ -370,13 +383,13 @@ impl<V: Copy + Listed> LineSets<V> {
             if lines.len() == self.listed {
                 return Ok(lines);
             }
-            self.push_listed(&mut lines, set)?;
+            self.push_listed_lines_of_set(&mut lines, set)?;
         }
         Ok(lines)
     }
 
     // Adds the listed lines of a set, in their order.
-    fn push_listed(&self, lines: &mut Vec<u64>, set: usize) -> Result<(), AllocError>
+    fn push_listed_lines_of_set(&self, lines: &mut Vec<u64>, set: usize) -> Result<(), AllocError>
         requires { set < length self.now.sets }
         ensures { OnOk result (lines.new.items ≡ lines.old.items ++
             lines_passing V.is_listed (set_at self.now.sets set)) }

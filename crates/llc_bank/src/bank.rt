@@ -11,11 +11,11 @@ ghost use Rattle.llc_bank.specs.Settled.{is_settled};
 ghost use Rattle.llc_bank.specs.BankTable.{bank_has_case, bank_table, core_of, is_reply};
 ghost use Rattle.network.specs.declared.part.Reaction.TheVariants.{Done};
 
-use crate::choice::choose;
+use crate::choice::choose_line_to_evict;
 use crate::config::BankConfig;
 use crate::decision::{
-    Decision, Eviction, decide_eviction, exclusive_request, filled_entry, returned_entry,
-    shared_request,
+    Decision, Eviction, decide_eviction, decide_exclusive_request, decide_shared_request,
+    filled_entry, returned_entry,
 };
 use crate::entry::{Entry, Evict, EvictError};
 use dram_mts::MemoryTime;
@@ -215,7 +215,7 @@ impl Bank {
     // What the bank does at a message that is no reply, by its line's set. Each kind of request looks the entry up for
     // itself, so its kind isn't tested again.
     #[inline(always)]
-    fn decided(&self, message: &Message, set: usize) -> Decision
+    fn decide_on_message(&self, message: &Message, set: usize) -> Decision
         requires set { set ≡ set_of self.now message.now.line }
         requires below { set < length self.now.table.sets }
         requires request { is_reply message.now.body ≡ false }
@@ -227,12 +227,12 @@ impl Bank {
         let room = self.table.has_room(set);
         match message.body {
             Body::ShReq { pts, version } => {
-                shared_request(self.lease, room, pts, version, self.entry_in(set, line))
+                decide_shared_request(self.lease, room, pts, version, self.entry_in(set, line))
             }
             Body::ExReq { version } => {
-                exclusive_request(
+                decide_exclusive_request(
                     room,
-                    core_of(message.from),
+                    core_of_node(message.from),
                     version,
                     self.entry_in(set, line),
                 )
@@ -335,12 +335,12 @@ impl Bank {
         ensures same_set { IfSome result (λ victim. set_of self.now victim ≡ set_of self.now line) }
         ensures evicted { IfSome result (λ victim. IsOk (evict self.now victim).0) }
     {
-        self.line_in_the_way(line)
+        self.line_that_makes_room(line)
     }
 
     // The line that make_room gives.
     #[inline(always)]
-    fn line_in_the_way(&self, line: LineNo) -> Option<LineNo>
+    fn line_that_makes_room(&self, line: LineNo) -> Option<LineNo>
         ensures line { result ≡ make_room self.now line }
         ensures sound { IsSound self.now.banks self.now.table }
     {
@@ -351,7 +351,7 @@ impl Bank {
         if self.entry_in(set, line).is_some() {
             return None;
         }
-        choose(&self.table, set)
+        choose_line_to_evict(&self.table, set)
     }
 
     /// The lines that are Shared or Exclusive, in rising order.
@@ -366,7 +366,7 @@ impl Bank {
     pub fn settled(&self) -> usize
         ensures { result ≡ length (all_listed is_settled self.now.table.sets) }
     {
-        self.table.listed()
+        self.table.count_listed_lines()
     }
 
     /// The line at an index of those that are Shared or Exclusive, in rising order.
@@ -403,7 +403,7 @@ impl Bank {
 
 // The core that a node is, 0 if it is none.
 #[inline(always)]
-fn core_of(node: Node) -> u32
+fn core_of_node(node: Node) -> u32
     ensures { result ≡ core_of node }
 {
     match node {
@@ -426,7 +426,7 @@ impl Part for Bank {
             return None;
         }
         let set = self.set_of(message.line);
-        match self.decided(message, set) {
+        match self.decide_on_message(message, set) {
             Decision::Loads => Some((Node::Dram(self.number), true)),
             Decision::Recalls { owner, sent: _ } => Some((Node::Core(owner), true)),
             Decision::Grants { entry: _, sent: _ } => Some((message.from, false)),
@@ -453,7 +453,7 @@ impl Part for Bank {
         }
         let line = message.line;
         let set = self.set_of(line);
-        match self.decided(message, set) {
+        match self.decide_on_message(message, set) {
             Decision::Waits => Ok(Reaction::Held),
             Decision::Loads => {
                 self.add_entry(set, line, Entry::Loading);

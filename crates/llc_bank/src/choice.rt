@@ -31,7 +31,7 @@ impl LineTest<Entry> for EntryTest {
 
 /// The line of a full set to evict to make room, where nothing is under way for any line of the set.
 #[inline(never)]
-pub(crate) fn choose(table: &LineSets<Entry>, set: usize) -> Option<LineNo>
+pub(crate) fn choose_line_to_evict(table: &LineSets<Entry>, set: usize) -> Option<LineNo>
     requires { set < length table.now.sets }
     ensures { result ≡ chosen (set_at table.now.sets set) }
 {

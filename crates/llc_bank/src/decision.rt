@@ -46,7 +46,7 @@ pub enum Eviction {
 }
 
 // A request of a line that the bank does not have.
-fn loaded(room: bool) -> Decision
+fn decide_on_absent_line(room: bool) -> Decision
     ensures { result ≡ loaded room }
 {
     if room {
@@ -57,7 +57,7 @@ fn loaded(room: bool) -> Decision
 }
 
 // What a reader of a line that is leased so is sent: a renewal if it has the version, the line if it has not.
-fn read_answer(renews: bool, line: &TimedLine) -> Body
+fn reply_to_reader(renews: bool, line: &TimedLine) -> Body
     ensures { result ≡ read_answer renews line.now }
 {
     if renews {
@@ -69,17 +69,21 @@ fn read_answer(renews: bool, line: &TimedLine) -> Body
 
 // A reader is given a line that is leased so.
 #[inline(always)]
-fn granted_to_read(dirty: bool, renews: bool, line: TimedLine) -> Decision
+fn decide_read_grant(dirty: bool, renews: bool, line: TimedLine) -> Decision
     ensures { result ≡ Decision.Grants (Entry.Shared dirty line) (read_answer renews line) }
 {
-    let sent = read_answer(renews, &line);
+    let sent = reply_to_reader(renews, &line);
     let entry = Entry::Shared { dirty, line };
     Decision::Grants { entry, sent }
 }
 
 // A reader of a line is given this lease; whether it has the version comes with it.
 #[inline(always)]
-fn leased(dirty: bool, line: &TimedLine, lease: Result<(u64, bool), Exhausted>) -> Decision
+fn decide_on_reader_lease(
+    dirty: bool,
+    line: &TimedLine,
+    lease: Result<(u64, bool), Exhausted>,
+) -> Decision
     ensures { result ≡ leased dirty line.now (result_ok lease) }
 {
     let Ok((rts, renews)) = lease else {
@@ -90,11 +94,11 @@ fn leased(dirty: bool, line: &TimedLine, lease: Result<(u64, bool), Exhausted>) 
         rts,
         words: line.words,
     };
-    granted_to_read(dirty, renews, longer)
+    decide_read_grant(dirty, renews, longer)
 }
 
 // The owner is asked to keep a copy leased to this time, if it fits.
-fn asked_back(owner: u32, until: Result<u64, Exhausted>) -> Decision
+fn decide_recall_for_reader(owner: u32, until: Result<u64, Exhausted>) -> Decision
     ensures { result ≡ asked_back owner (result_ok until) }
 {
     match until {
@@ -108,7 +112,7 @@ fn asked_back(owner: u32, until: Result<u64, Exhausted>) -> Decision
 
 /// A request to read.
 #[inline(always)]
-pub(crate) fn shared_request(
+pub(crate) fn decide_shared_request(
     lease: u64,
     room: bool,
     pts: u64,
@@ -118,20 +122,23 @@ pub(crate) fn shared_request(
     ensures { result ≡ shared_request lease room pts version (option_copied entry.entry) }
 {
     match entry {
-        None => loaded(room),
-        Some(Entry::Shared { dirty, line }) => leased(
+        None => decide_on_absent_line(room),
+        Some(Entry::Shared { dirty, line }) => decide_on_reader_lease(
             *dirty,
             line,
             on_shared(line.wts, line.rts, pts, version, lease),
         ),
-        Some(Entry::Exclusive { owner }) => asked_back(*owner, recall_until(pts, lease)),
+        Some(Entry::Exclusive { owner }) => decide_recall_for_reader(
+            *owner,
+            recall_until(pts, lease),
+        ),
         Some(Entry::Loading | Entry::Recalling { .. } | Entry::Storing) => Decision::Waits,
     }
 }
 
 /// A request to own, by a core.
 #[inline(always)]
-pub(crate) fn exclusive_request(
+pub(crate) fn decide_exclusive_request(
     room: bool,
     core: u32,
     version: Option<u64>,
@@ -140,7 +147,7 @@ pub(crate) fn exclusive_request(
     ensures { result ≡ exclusive_request room core version (option_copied entry.entry) }
 {
     match entry {
-        None => loaded(room),
+        None => decide_on_absent_line(room),
         Some(Entry::Shared { dirty: _, line }) => {
             let sent = if on_exclusive(line.wts, version) {
                 Body::UpgradeRep { rts: line.rts }

@@ -35,11 +35,12 @@ impl Config {
     pub fn is_good(&self) -> bool
         ensures { result ≡ is_good self.now }
     {
-        let is_shape = within(self.cores, 64)
-            && within(self.banks, 8)
-            && within(self.messages, 65_536);
-        let is_cache = within(self.sets, 1024) && within(self.ways, 16);
-        let is_bank = within(self.bank_sets, 1024) && within(self.bank_ways, 16);
+        let is_shape = is_size_in_range(self.cores, 64)
+            && is_size_in_range(self.banks, 8)
+            && is_size_in_range(self.messages, 65_536);
+        let is_cache = is_size_in_range(self.sets, 1024) && is_size_in_range(self.ways, 16);
+        let is_bank = is_size_in_range(self.bank_sets, 1024)
+            && is_size_in_range(self.bank_ways, 16);
         let is_line = self.line_words == 1 || self.line_words == 8;
         is_shape && is_cache && is_bank && is_line && self.lease >= 1 && self.lease <= 4_294_967_296
     }
@@ -67,7 +68,7 @@ impl OpenError {
 }
 
 /// Whether a number is 1 to the greatest.
-fn within(number: u32, most: u32) -> bool
+fn is_size_in_range(number: u32, most: u32) -> bool
     ensures { result ≡ is_within number most }
 {
     number >= 1 && number <= most

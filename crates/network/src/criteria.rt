@@ -43,7 +43,7 @@ impl Body {
 
 impl Wanted {
     /// Whether the search looks for this message.
-    pub(crate) fn fits(&self, message: &Message) -> bool
+    pub(crate) fn wants_message(&self, message: &Message) -> bool
         ensures { result ≡ is_wanted self.now message.now }
     {
         match *self {

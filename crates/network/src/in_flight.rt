@@ -294,7 +294,7 @@ impl InFlight {
     pub fn owners(&self, line: LineNo) -> usize
         ensures { result ≡ count_messages (is_ownership_of line) self.now.mail.messages }
     {
-        self.linked.count_of(&Wanted::OwnershipOf(line))
+        self.linked.count_wanted(&Wanted::OwnershipOf(line))
     }
 
     /// The first message, in the order of sending, that carries the line's ownership.
@@ -302,7 +302,7 @@ impl InFlight {
         ensures { option_copied result ≡ option_map (λ x. x.1)
             (first_message (is_ownership_of line) self.now.mail.messages) }
     {
-        self.linked.first(&Wanted::OwnershipOf(line))
+        self.linked.first_wanted(&Wanted::OwnershipOf(line))
     }
 
     /// The first message, in the order of sending, that stores the line's words in DRAM.

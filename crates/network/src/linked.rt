@@ -15,8 +15,8 @@ use crate::links::{count_links, link_of};
 use crate::message::{Body, Message, Node};
 use crate::numbers::{LineNo, MsgNo};
 use crate::slots::{
-    Slot, cell_of, drop_empty, drop_gaps, list_numbers, nth_number, place_behind, take_cell,
-    with_room,
+    Slot, cell_of_message, drop_slot_gaps, drop_surplus_empty_slots, index_behind_slot,
+    list_numbers, nth_message_number, slots_with_room, take_cell,
 };
 use line_arena::laws::{appended, looked_up, taken_off};
 use line_arena::{Arena, ArenaError, Cell};
@@ -53,7 +53,7 @@ impl Model for LinkedMessages {
 }
 
 /// The message that a slot's cell has, if it has a cell and the search looks for the message.
-fn wanted_in<'a>(
+fn wanted_message_in_slot<'a>(
     arena: &'a Arena<(u64, Message)>,
     slot: &Slot,
     wanted: &Wanted,
@@ -64,7 +64,7 @@ fn wanted_in<'a>(
 {
     let cell = slot.1?;
     let message = &arena.get(Cell(cell)).1;
-    if wanted.fits(message) {
+    if wanted.wants_message(message) {
         Some(message)
     } else {
         None
@@ -72,7 +72,7 @@ fn wanted_in<'a>(
 }
 
 /// The first message that the search looks for, with its number; `None` if there is none.
-fn first_wanted<'a>(
+fn first_wanted_message<'a>(
     arena: &'a Arena<(u64, Message)>,
     slots: &[Slot],
     wanted: &Wanted,
@@ -82,7 +82,7 @@ fn first_wanted<'a>(
         (cell_messages arena.now.lists (still_there slots.now)) }
 {
     for slot in slots {
-        if let Some(message) = wanted_in(arena, slot, wanted) {
+        if let Some(message) = wanted_message_in_slot(arena, slot, wanted) {
             return Some((slot.0, message));
         }
     }
@@ -90,14 +90,14 @@ fn first_wanted<'a>(
 }
 
 /// How many messages the search looks for.
-fn count_wanted(arena: &Arena<(u64, Message)>, slots: &[Slot], wanted: &Wanted) -> usize
+fn count_wanted_messages(arena: &Arena<(u64, Message)>, slots: &[Slot], wanted: &Wanted) -> usize
     requires { ArePlaced arena.now.lists (still_there slots.now) }
     ensures { result ≡ count_messages (is_wanted wanted.now) (cell_messages arena.now.lists
         (still_there slots.now)) }
 {
     let mut count = 0;
     for slot in slots {
-        if wanted_in(arena, slot, wanted).is_some() {
+        if wanted_message_in_slot(arena, slot, wanted).is_some() {
             count += 1;
         }
     }
@@ -105,7 +105,7 @@ fn count_wanted(arena: &Arena<(u64, Message)>, slots: &[Slot], wanted: &Wanted) 
 }
 
 /// The first message of a list that the search looks for, with its number; `None` if there is none.
-fn first_on<'a>(
+fn first_wanted_on_link<'a>(
     arena: &'a Arena<(u64, Message)>,
     list: u32,
     wanted: &Wanted,
@@ -123,7 +123,7 @@ fn first_on<'a>(
             return None;
         };
         let entry = arena.get(cell);
-        if wanted.fits(&entry.1) {
+        if wanted.wants_message(&entry.1) {
             return Some((entry.0, &entry.1));
         }
         next = arena.next(cell);
@@ -132,7 +132,7 @@ fn first_on<'a>(
 }
 
 /// Of two messages the one with the lower number, or the one that there is.
-fn earlier<'a>(
+fn earlier_message<'a>(
     one: Option<(u64, &'a Message)>,
     other: Option<(u64, &'a Message)>,
 ) -> Option<(u64, &'a Message)>
@@ -167,7 +167,7 @@ impl LinkedMessages {
           messages = [];
         }) }
     {
-        let slots = with_room(alloc, capacity)?;
+        let slots = slots_with_room(alloc, capacity)?;
         match Arena::new(alloc, capacity, count_links(cores, banks)) {
             Ok(arena) => Ok(LinkedMessages {
                 cores,
@@ -231,7 +231,7 @@ impl LinkedMessages {
         ensures endpoints { IfSome result
             (λ message. IsTrue (has_endpoints self.now.cores self.now.banks message.now)) }
     {
-        let cell = cell_of(&self.slots, number, self.near)?;
+        let cell = cell_of_message(&self.slots, number, self.near)?;
         Some(&self.arena.get(Cell(cell)).1)
     }
 
@@ -240,7 +240,7 @@ impl LinkedMessages {
     pub(crate) fn seek(&mut self, number: u64)
         ensures { self.new ≡ self.old }
     {
-        self.near = place_behind(&self.slots, number, self.near);
+        self.near = index_behind_slot(&self.slots, number, self.near);
     }
 
     /// Puts a message at the end of the list of its link, and gives it the next number.
@@ -289,7 +289,7 @@ impl LinkedMessages {
         };
         let _message = self.arena.unlink(Cell(cell));
         self.count -= 1;
-        drop_empty(&mut self.slots, self.count as usize, &mut self.near);
+        drop_surplus_empty_slots(&mut self.slots, self.count as usize, &mut self.near);
         true
     }
 
@@ -322,7 +322,7 @@ impl LinkedMessages {
         let _before = self.arena.refill(link.unwrap(), Cell(cell), (next, reply));
         self.slots.push_reserved((next, Some(cell)));
         self.next = next + 1;
-        drop_empty(&mut self.slots, self.count as usize, &mut self.near);
+        drop_surplus_empty_slots(&mut self.slots, self.count as usize, &mut self.near);
         next
     }
 
@@ -337,11 +337,11 @@ impl LinkedMessages {
     }
 
     /// The first message that the search looks for.
-    pub(crate) fn first(&self, wanted: &Wanted) -> Option<&Message>
+    pub(crate) fn first_wanted(&self, wanted: &Wanted) -> Option<&Message>
         ensures { option_copied result ≡ option_map (λ x. x.1)
             (first_message (is_wanted wanted.now) self.now.messages) }
     {
-        let (_, message) = first_wanted(&self.arena, &self.slots, wanted)?;
+        let (_, message) = first_wanted_message(&self.arena, &self.slots, wanted)?;
         Some(message)
     }
 
@@ -353,17 +353,20 @@ impl LinkedMessages {
     {
         let mut found = None;
         for bank in 0..self.banks {
-            found = earlier(found, first_on(&self.arena, bank, &Wanted::StoreOf(line)));
+            found = earlier_message(
+                found,
+                first_wanted_on_link(&self.arena, bank, &Wanted::StoreOf(line)),
+            );
         }
         let (_, message) = found?;
         Some(message)
     }
 
     /// How many messages the search looks for.
-    pub(crate) fn count_of(&self, wanted: &Wanted) -> usize
+    pub(crate) fn count_wanted(&self, wanted: &Wanted) -> usize
         ensures { result ≡ count_messages (is_wanted wanted.now) self.now.messages }
     {
-        count_wanted(&self.arena, &self.slots, wanted)
+        count_wanted_messages(&self.arena, &self.slots, wanted)
     }
 
     /// The numbers of the messages, in rising order.
@@ -394,7 +397,7 @@ impl LinkedMessages {
     pub(crate) fn nth(&self, at: u32) -> Option<MsgNo>
         ensures { result ≡ slice_get (map (λ x. x.0) self.now.messages) at }
     {
-        nth_number(&self.slots, self.count as usize, at)
+        nth_message_number(&self.slots, self.count as usize, at)
     }
 
     /// The same. The call drops the empty slots, and notes the message's slot, which is at the index then.
@@ -405,12 +408,12 @@ impl LinkedMessages {
         } }
         ensures slots { self.new.slots ≤ self.old.slots }
     {
-        drop_gaps(
+        drop_slot_gaps(
             &mut self.slots,
             self.count as usize,
             self.near.wrapping_sub(1),
         );
         self.near = at as usize;
-        nth_number(&self.slots, self.count as usize, at)
+        nth_message_number(&self.slots, self.count as usize, at)
     }
 }

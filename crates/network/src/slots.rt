@@ -12,7 +12,7 @@ pub(crate) type Slot = (u64, Option<u32>);
 
 /// No slots yet, and memory for all that may be kept if at most `capacity` messages may be in flight, and for one
 /// more.
-pub(crate) fn with_room(alloc: Global, capacity: u32) -> Result<Vec<Slot>, AllocError>
+pub(crate) fn slots_with_room(alloc: Global, capacity: u32) -> Result<Vec<Slot>, AllocError>
     requires { capacity ≤ 65536 }
     ensures items { IfOk result (λ slots. slots.items ≡ []) }
     ensures room { IfOk result (λ slots. vec_capacity slots ≡ 2 * capacity + 2) }
@@ -21,7 +21,7 @@ pub(crate) fn with_room(alloc: Global, capacity: u32) -> Result<Vec<Slot>, Alloc
 }
 
 /// The first index whose slot's number is not below `number`, found by halving.
-fn first_from(slots: &[Slot], number: u64) -> usize
+fn first_slot_from_number(slots: &[Slot], number: u64) -> usize
     requires { IsRising 0 slots.now (2 ^ 64) }
     ensures within { result ≤ length slots.now }
     ensures before { (k : ℕ) → k < result → number_at slots.now k < number }
@@ -41,13 +41,13 @@ fn first_from(slots: &[Slot], number: u64) -> usize
 }
 
 /// The index of the slot with the number, found by halving; `None` if there is none.
-fn halved_slot_of(slots: &[Slot], number: u64) -> Option<usize>
+fn slot_by_binary_search(slots: &[Slot], number: u64) -> Option<usize>
     requires { IsRising 0 slots.now (2 ^ 64) }
     ensures found { IfSome result (λ at. slice_get slots.now at ≡ Some
         (number, at_number number (still_there slots.now))) }
     ensures absent { IfNone result (at_number number (still_there slots.now) ≡ None) }
 {
-    let at = first_from(slots, number);
+    let at = first_slot_from_number(slots, number);
     if at >= slots.len() {
         return None;
     }
@@ -71,14 +71,14 @@ fn searched_slot_of(slots: &[Slot], from: usize, number: u64) -> Option<usize>
             return Some(near);
         }
     }
-    halved_slot_of(slots, number)
+    slot_by_binary_search(slots, number)
 }
 
 /// The index of the slot with the number; `None` if there is none. Numbers near the last one have a slot each, so the
 /// call first tries the slot that is as far before the last one as the number is below that one's. The slots of older
 /// numbers may be gone, and then the number's slot comes after that one, mostly by a few.
 #[inline(always)]
-pub(crate) fn slot_of(slots: &[Slot], number: u64) -> Option<usize>
+pub(crate) fn slot_with_number(slots: &[Slot], number: u64) -> Option<usize>
     requires { IsRising 0 slots.now (2 ^ 64) }
     ensures found { IfSome result (λ at. slice_get slots.now at ≡ Some
         (number, at_number number (still_there slots.now))) }
@@ -105,7 +105,7 @@ pub(crate) fn slot_of(slots: &[Slot], number: u64) -> Option<usize>
 
 /// The index, if the slot there has the number.
 #[inline(always)]
-fn tried(slots: &[Slot], at: usize, number: u64) -> Option<usize>
+fn index_if_slot_has_number(slots: &[Slot], at: usize, number: u64) -> Option<usize>
     requires { IsRising 0 slots.now (2 ^ 64) }
     ensures { IfSome result (λ at. slice_get slots.now at ≡ Some
         (number, at_number number (still_there slots.now))) }
@@ -128,18 +128,18 @@ pub(crate) fn slot_near(slots: &[Slot], number: u64, near: usize) -> Option<usiz
         (number, at_number number (still_there slots.now))) }
     ensures absent { IfNone result (at_number number (still_there slots.now) ≡ None) }
 {
-    if let Some(at) = tried(slots, near, number) {
+    if let Some(at) = index_if_slot_has_number(slots, near, number) {
         return Some(at);
     }
-    if let Some(at) = tried(slots, near.wrapping_sub(1), number) {
+    if let Some(at) = index_if_slot_has_number(slots, near.wrapping_sub(1), number) {
         return Some(at);
     }
-    slot_of(slots, number)
+    slot_with_number(slots, number)
 }
 
 /// The index behind the slot with the number; `near` if there is none. The slot at `near` is tried first.
 #[inline(always)]
-pub(crate) fn place_behind(slots: &[Slot], number: u64, near: usize) -> usize
+pub(crate) fn index_behind_slot(slots: &[Slot], number: u64, near: usize) -> usize
     requires { IsRising 0 slots.now (2 ^ 64) }
 {
     match slot_near(slots, number, near) {
@@ -150,7 +150,7 @@ pub(crate) fn place_behind(slots: &[Slot], number: u64, near: usize) -> usize
 
 /// The cell of the number; `None` if there is none. The slot at `near` is tried first.
 #[inline(always)]
-pub(crate) fn cell_of(slots: &[Slot], number: u64, near: usize) -> Option<u32>
+pub(crate) fn cell_of_message(slots: &[Slot], number: u64, near: usize) -> Option<u32>
     requires { IsRising 0 slots.now (2 ^ 64) }
     ensures { result ≡ at_number number (still_there slots.now) }
 {
@@ -160,7 +160,7 @@ pub(crate) fn cell_of(slots: &[Slot], number: u64, near: usize) -> Option<u32>
 
 /// Takes the cell out of the slot at an index, which stays empty.
 #[inline(always)]
-fn empty_slot(slots: &mut Vec<Slot>, at: usize, number: u64) -> Option<u32>
+fn take_cell_out_of_slot(slots: &mut Vec<Slot>, at: usize, number: u64) -> Option<u32>
     requires rising { IsRising 0 slots.old.items (2 ^ 64) }
     requires here { slice_get slots.old.items at ≡ Some
         (number, at_number number (still_there slots.old.items)) }
@@ -179,7 +179,7 @@ fn empty_slot(slots: &mut Vec<Slot>, at: usize, number: u64) -> Option<u32>
 }
 
 /// Drops all empty slots.
-fn drop_all_empty(slots: &mut Vec<Slot>)
+fn drop_all_empty_slots(slots: &mut Vec<Slot>)
     ensures long { length slots.new.items ≡ length (still_there slots.old.items) }
     ensures same { still_there slots.new.items ≡ still_there slots.old.items }
     ensures rising { (high : ℕ) → IsRising 0 slots.old.items high →
@@ -191,7 +191,7 @@ fn drop_all_empty(slots: &mut Vec<Slot>)
 }
 
 /// How many slots have a cell, of those before an index.
-fn full_before(slots: &[Slot], end: usize) -> usize {
+fn count_full_slots_before(slots: &[Slot], end: usize) -> usize {
     let mut count = 0;
     for at in 0..end.min(slots.len()) {
         if slots[at].1.is_some() {
@@ -204,7 +204,7 @@ fn full_before(slots: &[Slot], end: usize) -> usize {
 /// Drops the empty slots if they outnumber the others by two or more. `count` slots have a cell. The first one from
 /// `near` on is at `near` afterwards, too.
 #[inline(always)]
-pub(crate) fn drop_empty(slots: &mut Vec<Slot>, count: usize, near: &mut usize)
+pub(crate) fn drop_surplus_empty_slots(slots: &mut Vec<Slot>, count: usize, near: &mut usize)
     requires { count ≡ length (still_there slots.old.items) }
     ensures few { length slots.new.items ≤ 2 * count + 1 }
     ensures same { still_there slots.new.items ≡ still_there slots.old.items }
@@ -214,8 +214,8 @@ pub(crate) fn drop_empty(slots: &mut Vec<Slot>, count: usize, near: &mut usize)
     ensures len { vec_len slots.new ≤ vec_len slots.old }
 {
     if slots.len() / 2 > count {
-        *near = full_before(slots, *near);
-        drop_all_empty(slots);
+        *near = count_full_slots_before(slots, *near);
+        drop_all_empty_slots(slots);
     }
 }
 
@@ -235,7 +235,7 @@ fn drop_slot(slots: &mut Vec<Slot>, at: usize)
 
 /// Drops all empty slots. `count` slots have a cell. If one slot is empty and it is at `gap`, only those behind it are
 /// moved.
-pub(crate) fn drop_gaps(slots: &mut Vec<Slot>, count: usize, gap: usize)
+pub(crate) fn drop_slot_gaps(slots: &mut Vec<Slot>, count: usize, gap: usize)
     requires { count ≡ length (still_there slots.old.items) }
     ensures long { length slots.new.items ≡ count }
     ensures same { still_there slots.new.items ≡ still_there slots.old.items }
@@ -251,7 +251,7 @@ pub(crate) fn drop_gaps(slots: &mut Vec<Slot>, count: usize, gap: usize)
         drop_slot(slots, gap);
         return;
     }
-    drop_all_empty(slots);
+    drop_all_empty_slots(slots);
 }
 
 /// Takes the cell of the number, if it is there. Its slot stays empty. The slot at `near` is tried first, and `near`
@@ -270,7 +270,7 @@ pub(crate) fn take_cell(slots: &mut Vec<Slot>, number: u64, near: &mut usize) ->
 {
     let at = slot_near(slots, number, *near)?;
     *near = at.wrapping_add(1);
-    empty_slot(slots, at, number)
+    take_cell_out_of_slot(slots, at, number)
 }
 
 /// Fills a list, which it empties first, with the numbers of the slots that have a cell, in their order. `count` slots
@@ -297,7 +297,7 @@ pub(crate) fn list_numbers(
 }
 
 /// The number at an index of the slots that have a cell; `None` past the last. `count` slots have one.
-pub(crate) fn nth_number(slots: &[Slot], count: usize, at: u32) -> Option<MsgNo>
+pub(crate) fn nth_message_number(slots: &[Slot], count: usize, at: u32) -> Option<MsgNo>
     requires { count ≡ length (still_there slots.now) }
     ensures { result ≡ slice_get (map (λ x. x.0) (still_there slots.now)) at }
 {

@@ -79,14 +79,17 @@ impl<V: Copy> NumberMap<V> {
     pub fn entries(&self) -> Result<Vec<(u64, V)>, AllocError>
         ensures { IfOk result (λ entries. entries.items ≡ finite.entries self.now) }
     {
-        let mut entries = pairs_of(self.alloc, &self.hash)?;
-        sort_by_number(&mut entries)?;
+        let mut entries = collect_hash_entries(self.alloc, &self.hash)?;
+        sort_entries_by_key(&mut entries)?;
         Ok(entries)
     }
 }
 
 /// The entries in the order of the hash map.
-fn pairs_of<V: Copy>(alloc: Global, hash: &HashMap<u64, V>) -> Result<Vec<(u64, V)>, AllocError>
+fn collect_hash_entries<V: Copy>(
+    alloc: Global,
+    hash: &HashMap<u64, V>,
+) -> Result<Vec<(u64, V)>, AllocError>
     ensures pairs { IfOk result (λ pairs. pairs.items ≡ map (λ entry. (entry.0, entry.1))
         hash.now.entries) }
     ensures distinct { IsDistinct nat_eq (keys_of hash.now.entries) }
@@ -97,7 +100,7 @@ fn pairs_of<V: Copy>(alloc: Global, hash: &HashMap<u64, V>) -> Result<Vec<(u64, 
 }
 
 /// Sorts by key.
-fn sort_by_number<V: Copy>(pairs: &mut Vec<(u64, V)>) -> Result<(), AllocError>
+fn sort_entries_by_key<V: Copy>(pairs: &mut Vec<(u64, V)>) -> Result<(), AllocError>
     ensures sorted { OnOk result (IsNonDecreasingBy (λ pair. pair.0) pairs.new.items) }
     ensures permuted { IsPermutation pairs.old.items pairs.new.items }
 {

@@ -25,49 +25,51 @@ pub fn stale_hits(alloc: Global, records: &[Record]) -> Result<u64, AllocError>
     ensures { IfOk result (λ count. count ≡ stale_count records.now) }
 {
     if records.len() <= 16 {
-        return Ok(few_stale_hits(records));
+        return Ok(stale_hits_of_few_records(records));
     }
     stale_hits_counted(alloc, &mut Steps::new(), records)
 }
 
 /// The same number, of few records: each load is compared with all of them, which costs less than a map.
-fn few_stale_hits(records: &[Record]) -> u64
+fn stale_hits_of_few_records(records: &[Record]) -> u64
     ensures { result ≡ stale_count records.now }
 {
     records
         .iter()
-        .filter(|record| is_stale(records, record))
+        .filter(|record| is_stale_hit(records, record))
         .count() as u64
 }
 
 /// Whether the record is a load that is a stale hit among the records.
-fn is_stale(records: &[Record], hit: &Record) -> bool
+fn is_stale_hit(records: &[Record], hit: &Record) -> bool
     ensures { result ≡ is_stale_load hit.now.op records.now hit.now }
 {
     match hit.op {
-        Op::Load(word) => is_overtaken(records, word, hit),
+        Op::Load(word) => is_load_overtaken(records, word, hit),
         Op::Store(_, _) | Op::Swap(_, _) => false,
     }
 }
 
 /// Whether some store or swap of the word has a smaller number than the load and a greater time.
-fn is_overtaken(records: &[Record], word: WordAddr, load: &Record) -> bool
+fn is_load_overtaken(records: &[Record], word: WordAddr, load: &Record) -> bool
     ensures { result ≡ list_any (λ s. writes s.op word
         && (nat_lt s.number load.now.number && nat_lt load.now.ts s.ts)) records.now }
 {
-    records.iter().any(|other| overtakes(other, word, load))
+    records
+        .iter()
+        .any(|other| write_overtakes_load(other, word, load))
 }
 
 /// Whether the record is one.
-fn overtakes(other: &Record, word: WordAddr, load: &Record) -> bool
+fn write_overtakes_load(other: &Record, word: WordAddr, load: &Record) -> bool
     ensures { result ≡ (writes other.now.op word
         && (nat_lt other.now.number load.now.number && nat_lt load.now.ts other.now.ts)) }
 {
-    writes(other.op, word) && (other.number < load.number && load.ts < other.ts)
+    writes_word(other.op, word) && (other.number < load.number && load.ts < other.ts)
 }
 
 /// Whether the operation is a store or a swap of the word.
-fn writes(op: Op, word: WordAddr) -> bool
+fn writes_word(op: Op, word: WordAddr) -> bool
     ensures { result ≡ writes op word }
 {
     match op {
@@ -112,18 +114,18 @@ fn check_stale_hit(
     ensures counted { steps.new ≡ after_steps steps.old (looks_of visited.now.op) }
 {
     let word = visited.op.word();
-    let before = steps.look(latest, word);
+    let before = steps.look_up_time(latest, word);
     match visited.op {
-        Op::Load(_) => Ok(is_later(before, visited.ts)),
+        Op::Load(_) => Ok(has_later_write(before, visited.ts)),
         Op::Store(_, _) | Op::Swap(_, _) => {
-            steps.write(latest, word, raised_to(before, visited.ts))?;
+            steps.set_time_of_word(latest, word, latest_write_time(before, visited.ts))?;
             Ok(false)
         }
     }
 }
 
 /// Whether there is a time and it is later than the other.
-fn is_later(latest: Option<u64>, ts: u64) -> bool
+fn has_later_write(latest: Option<u64>, ts: u64) -> bool
     ensures { result ≡ later_than latest ts }
 {
     match latest {
@@ -133,7 +135,7 @@ fn is_later(latest: Option<u64>, ts: u64) -> bool
 }
 
 /// The later of a time, if there is one, and another.
-fn raised_to(latest: Option<u64>, ts: u64) -> u64
+fn latest_write_time(latest: Option<u64>, ts: u64) -> u64
     ensures { result ≡ raised latest ts }
 {
     match latest {

@@ -29,7 +29,7 @@ pub(crate) fn arranged_verdict(
     let mut places = vec![in alloc; 0u64; issued.len()]?;
     for stamp in stamps {
         let record = &records[by_number[stamp.number as usize]];
-        if !is_next(issued, &places, record) {
+        if !is_next_of_its_core(issued, &places, record) {
             return Ok(Verdict::OutOfProgramOrder(record.number));
         }
         places[record.core as usize] = u64::from(record.place) + 1;
@@ -41,7 +41,7 @@ pub(crate) fn arranged_verdict(
 }
 
 /// Whether the record is the next of its core's issued list, after this many of each core's.
-fn is_next(issued: &[Vec<Op>], places: &[u64], candidate: &Record) -> bool
+fn is_next_of_its_core(issued: &[Vec<Op>], places: &[u64], candidate: &Record) -> bool
     requires { length places.now ≡ length issued.now }
     ensures { IsTrue result ↔ IsNext issued.now places.now candidate.now }
 {

@@ -282,7 +282,7 @@ impl Cache {
         ensures free { (pinned : Option ℕ) → length (free_lines self.now pinned)
             + (if has_pinned self.now pinned then 1 else 0) ≡ result }
     {
-        self.table.listed()
+        self.table.count_listed_lines()
     }
 
     /// Whether there is a copy of the pinned line.

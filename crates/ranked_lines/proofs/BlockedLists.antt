@@ -452,7 +452,7 @@ pub sized : (k : ℕ) (bs : List (ArrayVec ℕ)) (d : ArrayVec ℕ) → k < leng
     size_at k bs ≡ length d.items
 sized k bs d lt is = size-is k bs d lt ∙ sym (ap (λ (v : ArrayVec ℕ). length v.items) is)
 
--- what `put_at` and `take_at` do
+-- what `put_number_in_block` and `take_number_from_block` do
 pub placed : (x : ℕ) (bs : List (ArrayVec ℕ)) (k : ℕ) (d w : ArrayVec ℕ) → k < length bs →
     k ≤ block_at x bs → (suc k < length bs → k ≡ block_at x bs) → d ≡ get_or bs k d →
     w.items ≡ put_in x d.items → joined (set bs k w) ≡ put_in x (joined bs)

@@ -4,7 +4,10 @@ ghost use Rattle.std.specs.Prelude.{if◌then◌else◌, slice_get, vec_capacity
 ghost use Rattle.ranked_lines.specs.Rising.{all_but, put_in, sorted, take_out, Rises};
 ghost use Rattle.ranked_lines.specs.Blocked.{block_at, joined, size_at, Filled, IsPlaceOf, DenseBut, Dense};
 
-use crate::rising_list::{Block, ends_below, index_but, kept, put_in, take_out};
+use crate::rising_list::{
+    Block, count_without_number, index_without_number, list_ends_below, put_in_rising_list,
+    take_out_of_rising_list,
+};
 use std::alloc::{AllocError, Global};
 use std::marker::Model;
 
@@ -39,7 +42,7 @@ fn block_at(blocks: &[Block], number: u64) -> usize
     let mut high = blocks.len();
     while low < high {
         let middle = low + (high - low) / 2;
-        if ends_below(blocks[middle].as_slice(), number) {
+        if list_ends_below(blocks[middle].as_slice(), number) {
             low = middle + 1;
         } else {
             high = middle;
@@ -49,7 +52,7 @@ fn block_at(blocks: &[Block], number: u64) -> usize
 }
 
 /// The block that a number belongs to: the first one that ends at it or above, else the last one.
-fn place(blocks: &[Block], number: u64) -> usize
+fn block_for_number(blocks: &[Block], number: u64) -> usize
     requires rises { Rises (joined blocks.now) }
     requires filled { Filled blocks.now }
     requires some { 0 < length blocks.now }
@@ -64,7 +67,7 @@ fn place(blocks: &[Block], number: u64) -> usize
 }
 
 /// How many numbers a block has.
-fn size(blocks: &[Block], at: usize) -> usize
+fn block_size(blocks: &[Block], at: usize) -> usize
     requires { at < length blocks.now }
     ensures count { result ≡ size_at at blocks.now }
     ensures most { result ≤ 128 }
@@ -73,7 +76,7 @@ fn size(blocks: &[Block], at: usize) -> usize
 }
 
 /// A block of at most 128 numbers.
-fn block_of(numbers: &[u64]) -> Block
+fn block_from_numbers(numbers: &[u64]) -> Block
     requires { length numbers.now ≤ 128 }
     ensures { result.items ≡ numbers.now }
 {
@@ -84,7 +87,7 @@ fn block_of(numbers: &[u64]) -> Block
 
 /// Whether there is room for one more block. There is while there are fewer numbers than 32 for each block but one that
 /// there may be.
-fn has_room(blocks: &Vec<Block>) -> bool
+fn has_room_for_block(blocks: &Vec<Block>) -> bool
     requires { Dense 65 blocks.now.items }
     ensures sure { length (joined blocks.now.items) + 32 < vec_capacity blocks.now * 32 →
         IsTrue result }
@@ -106,7 +109,7 @@ fn put_block(blocks: &mut Vec<Block>, at: usize, block: Block)
 
 /// Puts the upper 64 numbers of a full block into a block of their own behind it, so that each number that belonged to
 /// it has room.
-fn split(blocks: &mut Vec<Block>, at: usize)
+fn split_full_block(blocks: &mut Vec<Block>, at: usize)
     requires inside { at < length blocks.old.items }
     requires full { size_at at blocks.old.items ≡ 128 }
     requires room { length blocks.old.items < vec_capacity blocks.old }
@@ -119,13 +122,13 @@ fn split(blocks: &mut Vec<Block>, at: usize)
         size_at k blocks.new.items < 128 }
     ensures capacity { vec_capacity blocks.new ≡ vec_capacity blocks.old }
 {
-    let upper = block_of(&blocks[at].as_slice()[64..]);
+    let upper = block_from_numbers(&blocks[at].as_slice()[64..]);
     put_block(blocks, at + 1, upper);
     blocks[at].truncate(64);
 }
 
 /// Puts a number into the block that it belongs to, which has room.
-fn put_at(blocks: &mut Vec<Block>, at: usize, number: u64)
+fn put_number_in_block(blocks: &mut Vec<Block>, at: usize, number: u64)
     requires rises { Rises (joined blocks.old.items) }
     requires filled { Filled blocks.old.items }
     requires place { IsPlaceOf number at blocks.old.items }
@@ -135,11 +138,11 @@ fn put_at(blocks: &mut Vec<Block>, at: usize, number: u64)
     ensures filled { Filled blocks.new.items }
     ensures dense { Dense 65 blocks.old.items → Dense 65 blocks.new.items }
 {
-    put_in(&mut blocks[at], number);
+    put_in_rising_list(&mut blocks[at], number);
 }
 
 /// Takes the first number that isn't below a number out of its block, and the block if it gets empty.
-fn take_at(blocks: &mut Vec<Block>, at: usize, number: u64)
+fn take_number_from_block(blocks: &mut Vec<Block>, at: usize, number: u64)
     requires rises { Rises (joined blocks.old.items) }
     requires filled { Filled blocks.old.items }
     requires inside { at < length blocks.old.items }
@@ -149,15 +152,15 @@ fn take_at(blocks: &mut Vec<Block>, at: usize, number: u64)
     ensures filled { Filled blocks.new.items }
     ensures dense { Dense 65 blocks.old.items → DenseBut 1 1 65 at blocks.new.items }
 {
-    if size(blocks, at) <= 1 {
+    if block_size(blocks, at) <= 1 {
         let _block = blocks.remove(at);
         return;
     }
-    take_out(&mut blocks[at], number);
+    take_out_of_rising_list(&mut blocks[at], number);
 }
 
 /// Puts numbers behind those of a block that has room for them.
-fn append(block: &mut Block, numbers: &[u64])
+fn append_to_block(block: &mut Block, numbers: &[u64])
     requires { length block.old.items + length numbers.now ≤ 128 }
     ensures { block.new.items ≡ block.old.items ++ numbers.now }
 {
@@ -165,7 +168,7 @@ fn append(block: &mut Block, numbers: &[u64])
 }
 
 /// Joins a block with the next one, if there is one and they have at most 64 numbers together.
-fn join(blocks: &mut Vec<Block>, at: usize)
+fn join_next_block(blocks: &mut Vec<Block>, at: usize)
     requires { at < length blocks.old.items }
     ensures same { joined blocks.new.items ≡ joined blocks.old.items }
     ensures filled { Filled blocks.old.items → Filled blocks.new.items }
@@ -177,18 +180,18 @@ fn join(blocks: &mut Vec<Block>, at: usize)
     if at + 1 >= blocks.len() {
         return;
     }
-    let here = size(blocks, at);
-    let next = size(blocks, at + 1);
+    let here = block_size(blocks, at);
+    let next = block_size(blocks, at + 1);
     if here + next > 64 {
         return;
     }
     let upper = blocks.remove(at + 1);
-    append(&mut blocks[at], upper.as_slice());
+    append_to_block(&mut blocks[at], upper.as_slice());
 }
 
 /// Joins a block that a number has left with the next one and with the one before, where they have at most 64 numbers
 /// together.
-fn rebalance(blocks: &mut Vec<Block>, at: usize)
+fn join_short_neighbours(blocks: &mut Vec<Block>, at: usize)
     ensures same { joined blocks.new.items ≡ joined blocks.old.items }
     ensures filled { Filled blocks.old.items → Filled blocks.new.items }
     ensures dense { DenseBut 1 1 65 at blocks.old.items → Dense 65 blocks.new.items }
@@ -197,24 +200,24 @@ fn rebalance(blocks: &mut Vec<Block>, at: usize)
     if at >= blocks.len() {
         return;
     }
-    join(blocks, at);
+    join_next_block(blocks, at);
     if at == 0 {
         return;
     }
-    join(blocks, at - 1);
+    join_next_block(blocks, at - 1);
 }
 
 /// The number of all blocks that comes after so many others but one number, if there is one.
-fn nth_within(blocks: &[Block], but: &Option<u64>, at: usize) -> Option<u64>
+fn nth_number_in_blocks(blocks: &[Block], but: &Option<u64>, at: usize) -> Option<u64>
     requires { Rises (joined blocks.now) }
     ensures { result ≡ slice_get (all_but but.now (joined blocks.now)) at }
 {
     let mut left = at;
     for block in blocks {
-        let here = kept(block.as_slice(), *but);
+        let here = count_without_number(block.as_slice(), *but);
         if left < here {
             let numbers = block.as_slice();
-            return Some(numbers[index_but(numbers, *but, here, left)]);
+            return Some(numbers[index_without_number(numbers, *but, here, left)]);
         }
         left -= here;
     }
@@ -244,7 +247,7 @@ impl Blocks {
         let mut from = 0;
         while from < numbers.len() {
             let to = block_end(from, numbers.len());
-            blocks.push(block_of(&numbers[from..to]))?;
+            blocks.push(block_from_numbers(&numbers[from..to]))?;
             from = to;
         }
         Ok(Blocks { blocks })
@@ -275,25 +278,25 @@ impl Blocks {
         ensures room { self.new.1 ≡ self.old.1 }
         ensures sure { length self.old.0 + 32 < self.old.1 * 32 → IsTrue result }
     {
-        let has_room = has_room(&self.blocks);
+        let has_room = has_room_for_block(&self.blocks);
         if self.blocks.is_empty() {
             if !has_room {
                 return false;
             }
-            self.blocks.push_reserved(block_of(&[number]));
+            self.blocks.push_reserved(block_from_numbers(&[number]));
             return true;
         }
-        let at = place(&self.blocks, number);
-        if size(&self.blocks, at) < 128 {
-            put_at(&mut self.blocks, at, number);
+        let at = block_for_number(&self.blocks, number);
+        if block_size(&self.blocks, at) < 128 {
+            put_number_in_block(&mut self.blocks, at, number);
             return true;
         }
         if !has_room {
             return false;
         }
-        split(&mut self.blocks, at);
-        let at = place(&self.blocks, number);
-        put_at(&mut self.blocks, at, number);
+        split_full_block(&mut self.blocks, at);
+        let at = block_for_number(&self.blocks, number);
+        put_number_in_block(&mut self.blocks, at, number);
         true
     }
 
@@ -306,14 +309,14 @@ impl Blocks {
         if at >= self.blocks.len() {
             return;
         }
-        take_at(&mut self.blocks, at, number);
-        rebalance(&mut self.blocks, at);
+        take_number_from_block(&mut self.blocks, at, number);
+        join_short_neighbours(&mut self.blocks, at);
     }
 
     /// The number that comes after so many others but one number, if there is one.
     pub(crate) fn nth(&self, but: &Option<u64>, at: usize) -> Option<u64>
         ensures { result ≡ slice_get (all_but but.now self.now.0) at }
     {
-        nth_within(&self.blocks, but, at)
+        nth_number_in_blocks(&self.blocks, but, at)
     }
 }

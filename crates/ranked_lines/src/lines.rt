@@ -28,7 +28,7 @@ impl Model for RankedLines {
 /// A number goes out of a rising list, or comes into it; false where there is no room for it, and then nothing has
 /// changed. There is room while there are fewer numbers than there may be.
 #[inline(never)]
-fn exchange(numbers: &mut Blocks, number: u64, goes: bool) -> bool
+fn put_in_or_take_out(numbers: &mut Blocks, number: u64, goes: bool) -> bool
     ensures room { numbers.new.1 ≡ numbers.old.1 }
     ensures sure { (goes ≡ false → length numbers.old.0 + 32 < numbers.old.1 * 32) → IsTrue result }
     ensures numbers { numbers.new.0 ≡ (if result then (if goes then take_out number numbers.old.0 else
@@ -109,7 +109,7 @@ impl RankedLines {
         let Some(numbers) = &mut self.numbers else {
             return;
         };
-        if !exchange(numbers, line, after < before) {
+        if !put_in_or_take_out(numbers, line, after < before) {
             self.numbers = None;
         }
     }

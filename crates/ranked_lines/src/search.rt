@@ -6,7 +6,7 @@ ghost use Rattle.ranked_lines.specs.Rising.{Rises};
 
 // The half of a part, an index and a length, in which the numbers below a number end.
 #[inline(always)]
-fn narrowed(numbers: &[u64], number: u64, part: (usize, usize)) -> (usize, usize)
+fn halve_searched_part(numbers: &[u64], number: u64, part: (usize, usize)) -> (usize, usize)
     requires rises { Rises numbers.now }
     requires some { 0 < part.1 }
     requires inside { part.0 + part.1 ≤ length numbers.now }
@@ -31,7 +31,7 @@ fn narrowed(numbers: &[u64], number: u64, part: (usize, usize)) -> (usize, usize
 
 /// How many numbers of a rising list of at most 128 are below a number. Seven halves leave one of them. A loop would
 /// make the choices branches again.
-pub(crate) fn below(numbers: &[u64], number: u64) -> usize
+pub(crate) fn count_numbers_below(numbers: &[u64], number: u64) -> usize
     requires rises { Rises numbers.now }
     requires few { length numbers.now ≤ 128 }
     ensures bound { result ≤ length numbers.now }
@@ -40,13 +40,13 @@ pub(crate) fn below(numbers: &[u64], number: u64) -> usize
     if numbers.is_empty() {
         return 0;
     }
-    let of_64 = narrowed(numbers, number, (0, numbers.len()));
-    let of_32 = narrowed(numbers, number, of_64);
-    let of_16 = narrowed(numbers, number, of_32);
-    let of_8 = narrowed(numbers, number, of_16);
-    let of_4 = narrowed(numbers, number, of_8);
-    let of_2 = narrowed(numbers, number, of_4);
-    let (last, _one) = narrowed(numbers, number, of_2);
+    let of_64 = halve_searched_part(numbers, number, (0, numbers.len()));
+    let of_32 = halve_searched_part(numbers, number, of_64);
+    let of_16 = halve_searched_part(numbers, number, of_32);
+    let of_8 = halve_searched_part(numbers, number, of_16);
+    let of_4 = halve_searched_part(numbers, number, of_8);
+    let of_2 = halve_searched_part(numbers, number, of_4);
+    let (last, _one) = halve_searched_part(numbers, number, of_2);
     if numbers[last] < number {
         last + 1
     } else {
@@ -55,7 +55,7 @@ pub(crate) fn below(numbers: &[u64], number: u64) -> usize
 }
 
 /// How many numbers of a rising list of at most 128 are at most a number.
-pub(crate) fn up_to(numbers: &[u64], number: u64) -> usize
+pub(crate) fn count_numbers_up_to(numbers: &[u64], number: u64) -> usize
     requires rises { Rises numbers.now }
     requires few { length numbers.now ≤ 128 }
     ensures bound { result ≤ length numbers.now }
@@ -64,5 +64,5 @@ pub(crate) fn up_to(numbers: &[u64], number: u64) -> usize
     if number == u64::MAX {
         return numbers.partition_point(|y| *y <= number);
     }
-    below(numbers, number + 1)
+    count_numbers_below(numbers, number + 1)
 }

@@ -21,8 +21,8 @@ pub fn on_shared(
 ) -> Result<(u64, bool), Exhausted>
     ensures { result_ok result ≡ shared_lease wts rts pts version lease }
 {
-    let from_write = later(wts, lease)?;
-    let from_reader = later(pts, lease)?;
+    let from_write = end_of_lease(wts, lease)?;
+    let from_reader = end_of_lease(pts, lease)?;
     let renews = on_exclusive(wts, version);
     Ok((rts.max(from_write).max(from_reader), renews))
 }
@@ -44,7 +44,7 @@ pub fn on_exclusive(wts: u64, version: Option<u64>) -> bool
 pub fn recall_until(pts: u64, lease: u64) -> Result<u64, Exhausted>
     ensures { result_ok result ≡ if_fits (pts + lease) }
 {
-    later(pts, lease)
+    end_of_lease(pts, lease)
 }
 
 /// An owner returns a line written at `wts` and leased to `rts`, and is asked to lease it at least to `until`: the
@@ -54,12 +54,12 @@ pub fn recall_until(pts: u64, lease: u64) -> Result<u64, Exhausted>
 pub fn downgrade(wts: u64, rts: u64, until: u64, lease: u64) -> Result<u64, Exhausted>
     ensures { result_ok result ≡ returned_lease wts rts until lease }
 {
-    let from_write = later(wts, lease)?;
+    let from_write = end_of_lease(wts, lease)?;
     Ok(rts.max(from_write).max(until))
 }
 
 // The end of a lease that begins at a time.
-fn later(time: u64, lease: u64) -> Result<u64, Exhausted>
+fn end_of_lease(time: u64, lease: u64) -> Result<u64, Exhausted>
     ensures { result_ok result ≡ if_fits (time + lease) }
 {
     match time.checked_add(lease) {

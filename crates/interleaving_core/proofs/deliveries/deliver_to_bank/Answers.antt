@@ -15,9 +15,9 @@ returns-then-is_reply-clause-done c =
     let old = c.args.flight.now in
     let part = c.args.bank.now in
     let new = c.take_reply.new.self in
-    holds_there (λ x. ◌≡◌ {A = Answer × BankState × Mail} (answer.Delivered, new, c.take.new.flight.mail)
+    holds_there (λ x. ◌≡◌ {A = Answer × BankState × Mail} (answer.Delivered, new, c.take_message.new.flight.mail)
     (applied old.capacity part old.mail (Some c.args.number) (reacted (bank_table part x))))
     c.in-Some.ensures.value
-    (ap (λ (f : Flight). (answer.Delivered, new, f.mail)) c.take.ensures
+    (ap (λ (f : Flight). (answer.Delivered, new, f.mail)) c.take_message.ensures
     ∙ ap (λ (r : Option (Reaction × BankState)). applied old.capacity part old.mail (Some c.args.number)
     (reacted r)) (sym c.take_reply.ensures))

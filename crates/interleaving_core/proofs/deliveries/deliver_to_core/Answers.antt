@@ -15,15 +15,15 @@ returns-then-is_reply-clause-done c =
     let old = c.args.flight.now in
     let part = c.args.core.now in
     let new = c.take_reply.new.self in
-    holds_there (λ x. ◌≡◌ {A = Answer × CoreState × Mail} (answer.Delivered, new, c.take.new.flight.mail)
+    holds_there (λ x. ◌≡◌ {A = Answer × CoreState × Mail} (answer.Delivered, new, c.take_message.new.flight.mail)
     (applied old.capacity part old.mail (Some c.args.number) (reacted (core_table part x))))
     c.in-Some.ensures.value
-    (ap (λ (f : Flight). (answer.Delivered, new, f.mail)) c.take.ensures
+    (ap (λ (f : Flight). (answer.Delivered, new, f.mail)) c.take_message.ensures
     ∙ ap (λ (r : Option (Reaction × CoreState)). applied old.capacity part old.mail (Some c.args.number)
     (reacted r)) (sym c.take_reply.ensures))
 
 pub returns-then-is_reply-clause-masked : goal.returns-then-is_reply-clause-masked
-returns-then-is_reply-clause-masked c = λ cores. c.note_delivery.ensures cores c.args.core.now
+returns-then-is_reply-clause-masked c = λ cores. c.update_masks_after_delivery.ensures cores c.args.core.now
 
 pub returns-clause-masked : goal.returns-clause-masked
-returns-clause-masked c = λ cores. c.note_delivery-in-Ok.ensures cores c.args.core.now
+returns-clause-masked c = λ cores. c.update_masks_after_delivery-in-Ok.ensures cores c.args.core.now

@@ -11,16 +11,16 @@ loop-word-init c = (
   ap length c.requires.zeros ∙ length-replicate c.args.config.banks empty,
 )
 
-pub set_word-requires-clause-count : goal.set_word-requires-clause-count
-set_word-requires-clause-count c = c.loop-word.invariant.1
+pub set_dram_word-requires-clause-count : goal.set_dram_word-requires-clause-count
+set_dram_word-requires-clause-count c = c.loop-word.invariant.1
 
 pub loop-word-preserved : goal.loop-word-preserved
 loop-word-preserved c = (
-  ap (λ ds. filled c.args.config c.pop.new.self.items ds) c.in_ok-set_word.ensures
+  ap (λ ds. filled c.args.config c.pop.new.self.items ds) c.in_ok-set_dram_word.ensures
       ∙ sym (filled_last c.args.config c.pop.new.self.items c.in-Some.word c.loop-word.drams.items)
       ∙ ap (λ ws. filled c.args.config ws c.loop-word.drams.items) (sym c.in-Some.ensures.items)
       ∙ c.loop-word.invariant.0,
-  ap length c.in_ok-set_word.ensures ∙ set_counts c.args.config c.in-Some.word c.loop-word.drams.items
+  ap length c.in_ok-set_dram_word.ensures ∙ set_counts c.args.config c.in-Some.word c.loop-word.drams.items
       ∙ c.loop-word.invariant.1,
 )
 

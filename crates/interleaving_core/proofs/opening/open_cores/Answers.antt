@@ -14,11 +14,11 @@ new-requires-clause-config c =
 
 pub new-requires-clause-geometry : goal.new-requires-clause-geometry
 new-requires-clause-geometry c =
-    subst (λ (shape : Geometry). IsGeometry shape.sets shape.ways) (sym c.geometry.ensures)
+    subst (λ (shape : Geometry). IsGeometry shape.sets shape.ways) (sym c.private_cache_geometry.ensures)
     (cache_geometry c.args.config c.requires)
 
 pub loop-number-preserved : goal.loop-number-preserved
 loop-number-preserved c =
-    let core = c.in_ok-new.ensures ∙ ap₂ opened c.core_config-core.ensures c.geometry.ensures in
+    let core = c.in_ok-new.ensures ∙ ap₂ opened c.core_config-core.ensures c.private_cache_geometry.ensures in
     c.in_ok-push.ensures.items ∙ ap₂ (λ xs x. xs ++ x ∷ []) c.loop-number.invariant core
     ∙ next_core c.args.config c.loop-number.number

@@ -16,7 +16,7 @@ reopen-requires-clause-config c =
 
 pub reopen-requires-clause-geometry : goal.reopen-requires-clause-geometry
 reopen-requires-clause-geometry c =
-    subst (λ (shape : Geometry). IsGeometry shape.sets shape.ways) (sym c.geometry.ensures)
+    subst (λ (shape : Geometry). IsGeometry shape.sets shape.ways) (sym c.private_cache_geometry.ensures)
     (cache_geometry c.args.config c.requires.good)
 
 pub loop-at-preserved : goal.loop-at-preserved
@@ -24,7 +24,7 @@ loop-at-preserved c = (
   take_more_set c.loop-at.cores.items c.loop-at.at c.reopen.new.self
       (omega (arith, c.loop-at-test.true, c.loop-at.invariant.1))
       ∙ ap₂ (λ xs x. xs ++ x ∷ []) c.loop-at.invariant.0
-      (c.in_ok-reopen.ensures.opened ∙ ap₂ opened c.core_config.ensures c.geometry.ensures)
+      (c.in_ok-reopen.ensures.opened ∙ ap₂ opened c.core_config.ensures c.private_cache_geometry.ensures)
       ∙ next_core c.args.config c.loop-at.at,
   length-set c.loop-at.cores.items c.loop-at.at c.reopen.new.self ∙ c.loop-at.invariant.1,
 )

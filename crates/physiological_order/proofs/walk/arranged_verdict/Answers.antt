@@ -8,8 +8,8 @@ use Rattle.physiological_order.proofs.WalkSteps.{received_other, Counted-push, l
 use Rattle.physiological_order.proofs.ReplaySteps.{flat-words_after}
 use Rattle.physiological_order.proofs.walk.arranged_verdict.Goals as goal
 
-pub returns-then-not-is_next : goal.returns-then-not-is_next
-returns-then-not-is_next c =
+pub returns-then-not-is_next_of_its_core : goal.returns-then-not-is_next_of_its_core
+returns-then-not-is_next_of_its_core c =
     let i = c.loop-stamp.stamp-index in
     let r = c.index-records-by_number.result in
     record {
@@ -25,7 +25,8 @@ returns-then-not-is_next c =
         values_before = c.loop-stamp.invariant.values;
       };
       fault = λ h. false≢true
-          (c.if-not-is_next.ensures.1 (rw c.deref.ensures.value (next_from c.args.issued.now c.loop-stamp.places.items
+          (c.if-not-is_next_of_its_core.ensures.1 (rw c.deref.ensures.value (next_from c.args.issued.now
+          c.loop-stamp.places.items
           (picked c.args.records.now c.args.by_number.now (take i c.args.stamps.now)) r c.loop-stamp.invariant.long
           c.loop-stamp.invariant.counted h)));
     }
@@ -34,7 +35,7 @@ pub returns-then-ne : goal.returns-then-ne
 returns-then-ne c =
     let i = c.loop-stamp.stamp-index in
     let r = c.index-records-by_number.result in
-    let next = rw c.deref.ensures.value at (c.if-not-is_next.ensures.0 refl) in
+    let next = rw c.deref.ensures.value at (c.if-not-is_next_of_its_core.ensures.0 refl) in
     record {
       upto = record {
         before = picked c.args.records.now c.args.by_number.now (take i c.args.stamps.now);
@@ -63,7 +64,7 @@ loop-stamp-preserved c =
     let r = c.index-records-by_number.result in
     let rs = picked c.args.records.now c.args.by_number.now (take i c.args.stamps.now) in
     let invariant = c.loop-stamp.invariant in
-    let next = rw c.deref.ensures.value at (c.if-not-is_next.ensures.0 refl) in
+    let next = rw c.deref.ensures.value at (c.if-not-is_next_of_its_core.ensures.0 refl) in
     let within : r.core < length c.loop-stamp.places.items =
     (let there = next.core_there in let long = invariant.long in omega arith) in
     let more = sym (picked-next c.args.records.now c.args.by_number.now c.args.stamps.now i no_stamp r

@@ -23,9 +23,10 @@ invariant_of-self g c =
     let mail : Mail = c.self.inside.flight.mail in
     let here = slice_get_read c.self.inside.cores.items (length c.self.inside.cores.items) c.args.core
     c.index_mut.result.now refl (omega (arith, c.if-at-len.false, c.len.ensures)) c.index_mut.ensures.value in
-    let status = subst (λ (x : Answer × CoreState × Mail). SameStatus core x.1) (sym (c.advance-plain.ensures 0 mail))
+    let status = subst (λ (x : Answer × CoreState × Mail). SameStatus core x.1) (sym
+    (c.advance_core_time-plain.ensures 0 mail))
     (kept core (SameStatus core) (refl, refl) 0 mail None _ (advance_only core)) in
-    let same = owed_kept c.self.inside.cores.items c.args.core core c.advance-plain.new.core here status.0 in
+    let same = owed_kept c.self.inside.cores.items c.args.core core c.advance_core_time-plain.new.core here status.0 in
     record {
       cores_are = c.self.invariant.cores_are;
       banks_are = c.self.invariant.banks_are;
@@ -42,7 +43,8 @@ returns g c =
     let here = slice_get_read c.self.inside.cores.items (length c.self.inside.cores.items) c.args.core
     c.index_mut.result.now refl (omega (arith, c.if-at-len.false, c.len.ensures)) c.index_mut.ensures.value in
     made_without (core_place m c.args.core) core here None _ (advance_fits (core_table.advance core))
-    (answer_of c.advance-plain.result) c.advance-plain.new.core m.mail c.stop_after.new.is_stopped
-    (c.advance-plain.ensures m.config.messages m.mail) c.stop_after.ensures
+    (answer_of c.advance_core_time-plain.result) c.advance_core_time-plain.new.core m.mail
+    c.stop_after_plain_answer.new.is_stopped
+    (c.advance_core_time-plain.ensures m.config.messages m.mail) c.stop_after_plain_answer.ensures
     ∙ sym (finds m (λ x. changed m (with_core m c.args.core) None (advanced (core_table.advance x))) here)
     ∙ ap (λ (n : Machine). on_event n (Advance c.args.core)) c.self.view_is

@@ -21,8 +21,8 @@ use Rattle.interleaving_core.proofs.Endpoints.{still_fitted}
 use Rattle.interleaving_core.proofs.Parts.{core_below, core_banks}
 use Rattle.interleaving_core.proofs.machine_state.MachineState.attempt.Goals as goal
 
-pub attempt-answer-requires-clause-number : goal.attempt-answer-requires-clause-number
-attempt-answer-requires-clause-number g c =
+pub attempt_open_operation-answer-requires-clause-number : goal.attempt_open_operation-answer-requires-clause-number
+attempt_open_operation-answer-requires-clause-number g c =
     let m : Machine = the_view g.row.H g.H.History c.self.inside in
     let here = slice_get_read c.self.inside.cores.items (length c.self.inside.cores.items) c.args.core
     c.index_mut.result.now refl (omega (arith, c.if-at-len.false, c.len.ensures)) c.index_mut.ensures.value in
@@ -30,26 +30,27 @@ attempt-answer-requires-clause-number g c =
     c.index_mut.result.now here in
     omega (arith, below, c.self.invariant.cores_are)
 
-pub attempt-answer-requires-clause-banks : goal.attempt-answer-requires-clause-banks
-attempt-answer-requires-clause-banks g c =
+pub attempt_open_operation-answer-requires-clause-banks : goal.attempt_open_operation-answer-requires-clause-banks
+attempt_open_operation-answer-requires-clause-banks g c =
     let m : Machine = the_view g.row.H g.H.History c.self.inside in
     let here = slice_get_read c.self.inside.cores.items (length c.self.inside.cores.items) c.args.core
     c.index_mut.result.now refl (omega (arith, c.if-at-len.false, c.len.ensures)) c.index_mut.ensures.value in
     core_banks m (subst Invariant (sym c.self.view_is) c.requires) c.args.core c.index_mut.result.now here
     ∙ sym c.self.invariant.banks_are
 
-pub keep-requires : goal.keep-requires
-keep-requires g c =
+pub add_completed_record-requires : goal.add_completed_record-requires
+add_completed_record-requires g c =
     let here = slice_get_read c.self.inside.cores.items (length c.self.inside.cores.items) c.args.core
     c.index_mut.result.now refl (omega (arith, c.if-at-len.false, c.len.ensures)) c.index_mut.ensures.value in
     let count = subst (λ (x : Answer × CoreState × Mail).
     length (with_record (g.H.History.records c.self.inside.history) x.0) +
     owed_for x.1.open_op ≡ length (g.H.History.records c.self.inside.history) + owed_for c.index_mut.result.now.open_op)
-    (sym c.attempt-answer.ensures.done)
+    (sym c.attempt_open_operation-answer.ensures.done)
     (balanced c.index_mut.result.now c.args.core c.count-count.result c.self.inside.flight.capacity
     c.self.inside.flight.mail (g.H.History.records c.self.inside.history) _
     (attempt_fits c.index_mut.result.now c.index_mut.result.now.open_op) (attempt_only c.index_mut.result.now)) in
-    let all = owed_set c.self.inside.cores.items c.args.core c.index_mut.result.now c.attempt-answer.new.core here in
+    let all = owed_set c.self.inside.cores.items c.args.core c.index_mut.result.now
+    c.attempt_open_operation-answer.new.core here in
     omega (arith, count, all, c.self.invariant.reserved)
 
 pub invariant_of-self : goal.invariant_of-self
@@ -59,21 +60,23 @@ invariant_of-self g c =
     let count = subst (λ (x : Answer × CoreState × Mail).
     length (with_record (g.H.History.records c.self.inside.history) x.0) +
     owed_for x.1.open_op ≡ length (g.H.History.records c.self.inside.history) + owed_for c.index_mut.result.now.open_op)
-    (sym c.attempt-answer.ensures.done)
+    (sym c.attempt_open_operation-answer.ensures.done)
     (balanced c.index_mut.result.now c.args.core c.count-count.result c.self.inside.flight.capacity
     c.self.inside.flight.mail (g.H.History.records c.self.inside.history) _
     (attempt_fits c.index_mut.result.now c.index_mut.result.now.open_op) (attempt_only c.index_mut.result.now)) in
-    let all = owed_set c.self.inside.cores.items c.args.core c.index_mut.result.now c.attempt-answer.new.core here in
-    let kept = ap length c.keep.ensures.records in
+    let all = owed_set c.self.inside.cores.items c.args.core c.index_mut.result.now
+    c.attempt_open_operation-answer.new.core here in
+    let kept = ap length c.add_completed_record.ensures.records in
     let stands = subst (λ (x : Answer × CoreState × Mail). StandsAfter x.0 c.index_mut.result.now x.1)
-    (sym c.attempt-answer.ensures.done)
+    (sym c.attempt_open_operation-answer.ensures.done)
     (attempt_stands c.index_mut.result.now c.args.core c.count-count.result c.self.inside.flight.capacity
     c.self.inside.flight.mail) in
     still_fitted c.self.inside.config c.self.inside.flight c.self.inside.cores.items
     (g.H.History.records c.self.inside.history) _
-    c.self.invariant _ _ _ _ _ c.attempt-answer.ensures.set_up
-    (omega (arith, count, all, kept, c.keep.ensures.room, c.self.invariant.reserved))
-    (c.note_attempt.ensures c.self.inside.cores.items c.index_mut.result.now c.attempt-answer.new.core here stands
+    c.self.invariant _ _ _ _ _ c.attempt_open_operation-answer.ensures.set_up
+    (omega (arith, count, all, kept, c.add_completed_record.ensures.room, c.self.invariant.reserved))
+    (c.update_masks_after_attempt.ensures c.self.inside.cores.items c.index_mut.result.now
+    c.attempt_open_operation-answer.new.core here stands
     c.self.invariant.masked)
 
 pub returns-clause-tried : goal.returns-clause-tried
@@ -85,27 +88,29 @@ returns-clause-tried g c =
     let counted : c.count-count.result ≡ length (g.H.History.records c.self.inside.history) =
     omega (arith, c.count-count.ensures) in
     let tries = attempt_open core core.open_op in
-    let done = c.attempt-answer.ensures.done
+    let done = c.attempt_open_operation-answer.ensures.done
     ∙ ap (λ (n : ℕ). applied_attempt c.args.core n c.self.inside.flight.capacity m.mail core tries) counted
     ∙ ap (λ (n : ℕ). applied_attempt c.args.core (length m.records) n m.mail core tries)
     c.self.invariant.capacity_is in
     let after : List (List Op) → Machine = λ issued. record m {
-      cores = set m.cores c.args.core c.attempt-answer.new.core;
-      mail = c.attempt-answer.new.flight.mail;
+      cores = set m.cores c.args.core c.attempt_open_operation-answer.new.core;
+      mail = c.attempt_open_operation-answer.new.flight.mail;
       issued = issued;
-      records = g.H.History.records c.keep.new.history;
-      is_stopped = c.stop.new.is_stopped;
+      records = g.H.History.records c.add_completed_record.new.history;
+      is_stopped = c.stop_if_exhausted.new.is_stopped;
     } in
     ap (λ (issued : List (List Op)).
-    (answer_in (g.H.History.records c.keep.new.history) c.plain_of.result, after issued))
-    c.keep.ensures.issued
-    ∙ told_in _ m.records c.attempt-answer.result c.plain_of.result _ c.plain_of.ensures c.keep.ensures.records
+    (answer_in (g.H.History.records c.add_completed_record.new.history) c.plain_of.result, after issued))
+    c.add_completed_record.ensures.issued
+    ∙ told_in _ m.records c.attempt_open_operation-answer.result c.plain_of.result _ c.plain_of.ensures
+    c.add_completed_record.ensures.records
     (put_so (core_place m c.args.core) core here
     (applied_attempt c.args.core (length m.records) m.config.messages m.mail core tries)
     (tried m c.args.core core tries)
     (is_tried m c.args.core core here tries (attempt_fits core core.open_op))
-    c.attempt-answer.result c.attempt-answer.new.core c.attempt-answer.new.flight.mail
-    (g.H.History.records c.keep.new.history) c.stop.new.is_stopped
-    done c.keep.ensures.records c.stop.ensures
+    c.attempt_open_operation-answer.result c.attempt_open_operation-answer.new.core
+    c.attempt_open_operation-answer.new.flight.mail
+    (g.H.History.records c.add_completed_record.new.history) c.stop_if_exhausted.new.is_stopped
+    done c.add_completed_record.ensures.records c.stop_if_exhausted.ensures
     ∙ sym (finds m (λ x. tried m c.args.core x (attempt_open x x.open_op)) here)
     ∙ ap (λ (n : Machine). on_event n (Attempt c.args.core)) c.self.view_is)

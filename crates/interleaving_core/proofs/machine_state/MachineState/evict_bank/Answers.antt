@@ -41,4 +41,4 @@ returns g c =
     (sym (finds m (λ x. changed m (with_bank m c.args.bank) None
     (entry_evicted (bank_table.evict x c.args.line))) here))
     (answer_of c.evict_entry-plain.result) c.evict_entry-plain.new.bank c.evict_entry-plain.new.flight.mail
-    c.stop_after.new.is_stopped c.evict_entry-plain.ensures.done c.stop_after.ensures
+    c.stop_after_plain_answer.new.is_stopped c.evict_entry-plain.ensures.done c.stop_after_plain_answer.ensures

@@ -60,4 +60,4 @@ returns g c =
     (λ n. on_event n (EvictCache c.args.core c.args.line))
     (sym (finds m (λ x. changed m (with_core m c.args.core) None (copy_evicted (core_table.evict x c.args.line))) here))
     (answer_of c.evict_copy-plain.result) c.evict_copy-plain.new.core c.evict_copy-plain.new.flight.mail
-    c.stop_after.new.is_stopped c.evict_copy-plain.ensures.done c.stop_after.ensures
+    c.stop_after_plain_answer.new.is_stopped c.evict_copy-plain.ensures.done c.stop_after_plain_answer.ensures

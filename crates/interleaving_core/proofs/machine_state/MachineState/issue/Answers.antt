@@ -41,9 +41,9 @@ invariant_of-self-2 g c =
       capacity_is = c.self.invariant.capacity_is;
       reserved =
           omega (arith, same, most, c.in_ok-issue.ensures.reserved, ap length c.issue.ensures.records, c.len-2.ensures);
-      masked = subst (λ (x : CoreState). AreMasks c.note.new.masks (set cores c.args.core x))
+      masked = subst (λ (x : CoreState). AreMasks c.update_core_masks.new.masks (set cores c.args.core x))
           (read_back cores c.args.core c.issue-issued.new.self c.index-3.result.now within c.index-3.ensures)
-          (c.note.ensures cores c.index_mut.result.now here c.self.invariant.masked);
+          (c.update_core_masks.ensures cores c.index_mut.result.now here c.self.invariant.masked);
     }
 
 pub returns-clause-done : goal.returns-clause-done

@@ -18,5 +18,5 @@ invariant_of-result g c =
       banks_are = ap (λ (t : Flight). t.banks) c.in_ok-flight.ensures;
       capacity_is = ap (λ (t : Flight). t.capacity) c.in_ok-flight.ensures;
       reserved = omega (arith, none, empty);
-      masked = subst (AreMasks _) (sym c.in_ok-cores.ensures) (c.all_idle.ensures c.args.config);
+      masked = subst (AreMasks _) (sym c.in_ok-cores.ensures) (c.idle_core_masks.ensures c.args.config);
     }

@@ -18,7 +18,8 @@ invariant_of-result g c =
       banks_are = ap (λ (t : Flight). t.banks) c.clear.ensures ∙ c.self.invariant.banks_are;
       capacity_is = ap (λ (t : Flight). t.capacity) c.clear.ensures ∙ c.self.invariant.capacity_is;
       reserved = omega (arith, none, empty);
-      masked = subst (AreMasks _) (sym c.in_ok-reopen_parts.ensures.cores) (c.all_idle.ensures c.self.inside.config);
+      masked = subst (AreMasks _) (sym c.in_ok-reopen_parts.ensures.cores) (c.idle_core_masks.ensures
+          c.self.inside.config);
     }
 
 pub clear-requires-2 : goal.clear-requires-2

@@ -23,16 +23,23 @@ pub loop-event-preserved : goal.loop-event-preserved
 loop-event-preserved g c =
     let taken = take_more c.args.events.now c.loop-event.event-index c.event-item.result c.loop-event-test.true
     ∙ ap (λ (e : Event). take c.loop-event.event-index c.args.events.now ++ e ∷ []) (sym c.event-item.is) in
-    let one = ap length c.add.ensures.items in
+    let one = ap length c.add_answer.ensures.items in
     let more = length-append c.loop-event.answers.items (c.step-answer.result ∷ []) in
     record {
-      ran = subst (λ (es : List Event). Ran c.args.self.now es c.add.new.answers.items c.step-answer.new.self)
+      ran = subst (λ (es : List Event). Ran c.args.self.now es c.add_answer.new.answers.items c.step-answer.new.self)
           (sym taken)
           (subst (λ (answers : List Answer). Ran c.args.self.now (take c.loop-event.event-index c.args.events.now
-          ++ c.event-item.result ∷ []) answers c.step-answer.new.self) (sym c.add.ensures.items)
+          ++ c.event-item.result ∷ []) answers c.step-answer.new.self) (sym c.add_answer.ensures.items)
           (ran_more _ _ _ _ _ _ _ c.loop-event.invariant.ran c.step-answer.ensures.stepped));
       set_up = set_up_on _ _ _ c.loop-event.invariant.set_up c.step-answer.ensures.set_up;
-      many = omega (arith, one, more, c.loop-event.invariant.many, c.add.ensures.capacity, c.loop-event-test.true);
+      many = omega (
+        arith,
+        one,
+        more,
+        c.loop-event.invariant.many,
+        c.add_answer.ensures.capacity,
+        c.loop-event-test.true,
+      );
     }
 
 pub returns-clause-throughout : goal.returns-clause-throughout

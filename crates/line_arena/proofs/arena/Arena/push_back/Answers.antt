@@ -14,7 +14,7 @@ unreachable-requires g c = c.in_default.not-None (c.fill-before.ensures.value �
 
 pub returns-in-None-before-clause-after : goal.returns-in-None-before-clause-after
 returns-in-None-before-clause-after g c =
-    pushed_to (rings_of (emptied c.in-Some.cell c.take_free.new.self)) c.fill-before.new.self c.args.item
+    pushed_to (rings_of (emptied c.in-Some.cell c.take_free_cell.new.self)) c.fill-before.new.self c.args.item
     (ap shown c.in-Some.ensures.same.0 ∙ ap (λ a. a.lists) c.self.view_is) c.requires refl
     c.fill-before.ensures.lists
     (c.fill-before.ensures.sizes.0 ∙ c.in-Some.ensures.same.1 ∙ ap (λ a. a.cells) c.self.view_is)
@@ -22,4 +22,4 @@ returns-in-None-before-clause-after g c =
 pub returns-in-None-before-clause-fresh : goal.returns-in-None-before-clause-fresh
 returns-in-None-before-clause-fresh g c =
     ap (look_up c.in-Some.cell) (sym (ap shown c.in-Some.ensures.same.0 ∙ ap (λ a. a.lists) c.self.view_is))
-    ∙ fresh c.in-Some.cell (emptied c.in-Some.cell c.take_free.new.self) c.in-Some.ensures.lacks.lacks
+    ∙ fresh c.in-Some.cell (emptied c.in-Some.cell c.take_free_cell.new.self) c.in-Some.ensures.lacks.lacks

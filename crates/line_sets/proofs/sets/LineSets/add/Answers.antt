@@ -23,7 +23,7 @@ invariant_of-self g c =
     let fresh = is-new c.self.invariant.0 c.self.view_is c.requires.in_table c.requires.absent c.requires.way in
     let after = rw c.unwrap-cell.ensures at c.push_back-pushed.ensures.after in
     let free = rw c.unwrap-cell.ensures at c.push_back-pushed.ensures.fresh in
-    let is = c.count_of-after.ensures.count in
+    let is = c.count_if_listed-after.ensures.count in
     let new = put-new c.cell.inside.0 c.args.value fresh (rw (← c.cell.view_is) at free)
     (rw (← c.cell.view_is) at after) c.push.ensures in (
       new.stored,
@@ -31,15 +31,16 @@ invariant_of-self g c =
       c.change.ensures.order _ _ c.self.invariant.2 (exchanged g.V.Listed.is_listed new fresh.absent {n = 0} refl is),
       still-room g.V.Listed.is_listed c.self.invariant.0 new.cells c.self.invariant.3
           (λ room. c.change.ensures.kept _ c.self.invariant.2 (λ lt. room)),
-      c.recount.ensures ∙ recounted g.V.Listed.is_listed new fresh.absent refl c.uncount_of.ensures.count
+      c.update_set_count.ensures ∙ recounted g.V.Listed.is_listed new fresh.absent refl
+          c.count_if_unlisted.ensures.count
           c.self.invariant.4,
     )
 
-pub recount-requires : goal.recount-requires
-recount-requires g c =
+pub update_set_count-requires : goal.update_set_count-requires
+update_set_count-requires g c =
     let fresh = is-new c.self.invariant.0 c.self.view_is c.requires.in_table c.requires.absent c.requires.way in
     can-count g.V.Listed.is_listed c.args.set c.args.line fresh.stored fresh.low fresh.absent c.self.invariant.4 refl
-    c.uncount_of.ensures.one
+    c.count_if_unlisted.ensures.one
 
 pub returns : goal.returns
 returns g c =
@@ -53,5 +54,5 @@ returns g c =
 pub overflow_add-self : goal.overflow_add-self
 overflow_add-self g c =
     let fits = next-fits g.V.Listed.is_listed c.self.invariant.0 c.args.value c.self.invariant.1
-    c.count_of-after.ensures.count in
+    c.count_if_listed-after.ensures.count in
     omega (arith, fits)

@@ -6,7 +6,7 @@ use Rattle.network.proofs.LinkLaws.{link-low}
 use Rattle.network.proofs.SlotChanges.{IsRising-append, IsRising-higher, length-answered}
 use Rattle.network.proofs.StoredChanges.{Answers, stored-answered}
 use Rattle.network.proofs.StoredMessages.{placed-at, placed-some}
-use Rattle.network.proofs.linked.LinkedMessages.answer.Goals.{After-drop_empty}
+use Rattle.network.proofs.linked.LinkedMessages.answer.Goals.{After-drop_surplus_empty_slots}
 use Rattle.network.proofs.linked.LinkedMessages.answer.Goals as goal
 
 pub take_cell-taken-requires : goal.take_cell-taken-requires
@@ -31,15 +31,16 @@ refill-before-requires-clause-cell c =
     (still_there c.self.inside.slots.items) c.self.invariant.linked.placed
     (sym c.take_cell-taken.ensures.value ∙ c.unwrap-cell.ensures)).1
 
-pub drop_empty-requires : goal.drop_empty-requires
-drop_empty-requires c =
+pub drop_surplus_empty_slots-requires : goal.drop_surplus_empty_slots-requires
+drop_surplus_empty_slots-requires c =
     rw c.push_reserved.ensures.items (c.self.invariant.counted ∙ sym (length-answered c.args.number c.self.inside.next
     c.unwrap-cell.result c.self.inside.slots.items c.take_cell-taken.new.slots.items
     (sym c.take_cell-taken.ensures.value ∙ c.unwrap-cell.ensures) c.take_cell-taken.ensures.after))
 
 -- what is stored when the empty slots are dropped
-answered : (c : After-drop_empty) → Answers c.self.inside.cores c.self.inside.banks c.self.inside.next
-    c.self.inside.count (vec_capacity c.self.inside.slots) c.args.number c.args.reply c.drop_empty.new.slots.items
+answered : (c : After-drop_surplus_empty_slots) → Answers c.self.inside.cores c.self.inside.banks c.self.inside.next
+    c.self.inside.count (vec_capacity c.self.inside.slots) c.args.number c.args.reply
+    c.drop_surplus_empty_slots.new.slots.items
     (pushed c.unwrap.result (c.unwrap-cell.result, (c.self.inside.next, c.args.reply))
     (unlinked c.unwrap-cell.result c.self.inside.arena))
     (cell_messages c.self.inside.arena.lists (still_there c.self.inside.slots.items))
@@ -47,27 +48,27 @@ answered c =
     let here = rw (← c.self.view_is) at c.requires.endpoints in
     let number = rw (← c.self.view_is) at c.requires.number in
     stored-answered _ _ _ _ _ c.args.number c.unwrap.result c.unwrap-cell.result c.args.reply c.self.inside.slots.items
-    c.take_cell-taken.new.slots.items c.drop_empty.new.slots.items c.self.inside.arena c.self.invariant
+    c.take_cell-taken.new.slots.items c.drop_surplus_empty_slots.new.slots.items c.self.inside.arena c.self.invariant
     c.looked_up.ensures c.taken_off.ensures c.appended.ensures c.lists-lists.ensures.once here number
     (sym c.take_cell-taken.ensures.value ∙ c.unwrap-cell.ensures) (sym c.link_of-link.ensures ∙ c.unwrap.ensures)
-    c.take_cell-taken.ensures.after (rw (← c.push_reserved.ensures.items) c.drop_empty.ensures.same)
-    (c.drop_empty.ensures.rising _ (rw c.push_reserved.ensures.items (IsRising-append 0 _ _ _
-    (c.take_cell-taken.ensures.rising _ c.self.invariant.rising)))) c.drop_empty.ensures.few
+    c.take_cell-taken.ensures.after (rw (← c.push_reserved.ensures.items) c.drop_surplus_empty_slots.ensures.same)
+    (c.drop_surplus_empty_slots.ensures.rising _ (rw c.push_reserved.ensures.items (IsRising-append 0 _ _ _
+    (c.take_cell-taken.ensures.rising _ c.self.invariant.rising)))) c.drop_surplus_empty_slots.ensures.few
 
 pub invariant_of-self : goal.invariant_of-self
 invariant_of-self c = rw (
-  c.drop_empty.ensures.capacity,
+  c.drop_surplus_empty_slots.ensures.capacity,
   c.push_reserved.ensures.capacity,
   c.take_cell-taken.ensures.capacity,
   c.refill-before.ensures.after,
-) (answered (goal.at.invariant_of-self c).After-drop_empty).stored
+) (answered (goal.at.invariant_of-self c).After-drop_surplus_empty_slots).stored
 
 pub returns-clause-after : goal.returns-clause-after
 returns-clause-after c =
-    let new = answered (goal.at.returns-clause-after c).After-drop_empty in
+    let new = answered (goal.at.returns-clause-after c).After-drop_surplus_empty_slots in
     rw (
       ← c.self.view_is,
-      c.drop_empty.ensures.capacity,
+      c.drop_surplus_empty_slots.ensures.capacity,
       c.push_reserved.ensures.capacity,
       c.take_cell-taken.ensures.capacity,
       c.refill-before.ensures.after,

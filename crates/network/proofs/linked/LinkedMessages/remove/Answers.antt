@@ -6,7 +6,7 @@ use Rattle.network.proofs.SlotChanges.{IsRising-higher, length-without_number}
 use Rattle.network.proofs.SlotChanges.{without_number-none}
 use Rattle.network.proofs.StoredChanges.{Takes, stored-none, stored-taken}
 use Rattle.network.proofs.StoredMessages.{messages-at_number, placed-at, second-of}
-use Rattle.network.proofs.linked.LinkedMessages.remove.Goals.{After-drop_empty, In_default}
+use Rattle.network.proofs.linked.LinkedMessages.remove.Goals.{After-drop_surplus_empty_slots, In_default}
 use Rattle.network.proofs.linked.LinkedMessages.remove.Goals as goal
 
 pub take_cell-requires : goal.take_cell-requires
@@ -51,27 +51,33 @@ unlink-message-requires c =
     ap is_some (placed-at c.args.number c.in-Some.cell ls xs c.self.invariant.linked.placed
     (sym c.take_cell.ensures.value ∙ c.in-Some.is)).1
 
-pub drop_empty-requires : goal.drop_empty-requires
-drop_empty-requires c =
+pub drop_surplus_empty_slots-requires : goal.drop_surplus_empty_slots-requires
+drop_surplus_empty_slots-requires c =
     let xs = still_there c.self.inside.slots.items in
     let less = length-without_number c.args.number c.in-Some.cell xs (sym c.take_cell.ensures.value ∙ c.in-Some.is) in
     rw c.take_cell.ensures.after (omega (arith, less, c.self.invariant.counted))
 
 -- what is stored when the empty slots are dropped
-taken : (c : After-drop_empty) → Takes c.self.inside.cores c.self.inside.banks c.self.inside.next c.self.inside.count
-    (vec_capacity c.self.inside.slots) c.args.number c.drop_empty.new.slots.items
+taken : (c : After-drop_surplus_empty_slots) → Takes c.self.inside.cores c.self.inside.banks c.self.inside.next
+    c.self.inside.count
+    (vec_capacity c.self.inside.slots) c.args.number c.drop_surplus_empty_slots.new.slots.items
     (unlinked c.in-Some.cell c.self.inside.arena)
     (cell_messages c.self.inside.arena.lists (still_there c.self.inside.slots.items))
 taken c =
-    stored-taken _ _ _ _ _ c.args.number c.in-Some.cell c.self.inside.slots.items c.drop_empty.new.slots.items
+    stored-taken _ _ _ _ _ c.args.number c.in-Some.cell c.self.inside.slots.items
+    c.drop_surplus_empty_slots.new.slots.items
     c.self.inside.arena c.self.invariant c.looked_up.ensures c.taken_off.ensures c.lists-lists.ensures.once
-    (sym c.take_cell.ensures.value ∙ c.in-Some.is) (c.drop_empty.ensures.same ∙ c.take_cell.ensures.after)
-    (c.drop_empty.ensures.rising _ (c.take_cell.ensures.rising _ c.self.invariant.rising))
-    (omega (arith, c.drop_empty.ensures.few))
+    (sym c.take_cell.ensures.value ∙ c.in-Some.is) (c.drop_surplus_empty_slots.ensures.same ∙ c.take_cell.ensures.after)
+    (c.drop_surplus_empty_slots.ensures.rising _ (c.take_cell.ensures.rising _ c.self.invariant.rising))
+    (omega (arith, c.drop_surplus_empty_slots.ensures.few))
 
 pub invariant_of-self-2 : goal.invariant_of-self-2
-invariant_of-self-2 c = rw (c.drop_empty.ensures.capacity, c.take_cell.ensures.capacity, c.unlink-message.ensures.after)
-    (taken (goal.at.invariant_of-self-2 c).After-drop_empty).stored
+invariant_of-self-2 c = rw (
+  c.drop_surplus_empty_slots.ensures.capacity,
+  c.take_cell.ensures.capacity,
+  c.unlink-message.ensures.after,
+)
+    (taken (goal.at.invariant_of-self-2 c).After-drop_surplus_empty_slots).stored
 
 pub returns-clause-value : goal.returns-clause-value
 returns-clause-value c =
@@ -82,10 +88,10 @@ returns-clause-value c =
 
 pub returns-clause-after : goal.returns-clause-after
 returns-clause-after c =
-    let new = taken (goal.at.returns-clause-after c).After-drop_empty in
+    let new = taken (goal.at.returns-clause-after c).After-drop_surplus_empty_slots in
     rw (
       ← c.self.view_is,
-      c.drop_empty.ensures.capacity,
+      c.drop_surplus_empty_slots.ensures.capacity,
       c.take_cell.ensures.capacity,
       c.unlink-message.ensures.after,
     ) (rw new.are refl)

@@ -21,12 +21,13 @@ loop-bank-preserved c =
     let a = c.self.inside in let ls = a.arena.lists in let xs = still_there a.slots.items in
     let bank = c.loop-bank.bank in let stores = is_store_of c.args.line in
     let each = c.self.invariant.linked.each bank (omega (arith, c.self.invariant.linked.many)) in
-    let here = c.first_on.ensures
+    let here = c.first_wanted_on_link.ensures
     ∙ ap (λ us. first_message stores (map (λ (h : ℕ × (ℕ × Message)). h.1) us)) each
     ∙ first-filter stores (is_on a.cores a.banks bank) (held ls xs) in
     let rising = messages-rising 0 a.next ls xs c.self.invariant.linked.placed
     (IsRising-still_there 0 a.next a.slots.items c.self.invariant.rising) in
-    c.earlier-found.ensures ∙ ap (λ o. earlier o (option_map with_message c.first_on.result)) c.loop-bank.invariant
+    c.earlier_message-found.ensures ∙ ap (λ o. earlier o (option_map with_message c.first_wanted_on_link.result))
+    c.loop-bank.invariant
     ∙ ap (earlier (first_message (λ m. stores m && is_below a.cores a.banks bank m) (cell_messages ls xs))) here
     ∙ first-either (λ m. stores m && is_below a.cores a.banks bank m) (λ m. is_on a.cores a.banks bank m && stores m)
     (λ m. stores m && is_below a.cores a.banks (bank + 1) m) 0 a.next (cell_messages ls xs) rising

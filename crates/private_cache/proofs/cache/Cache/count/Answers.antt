@@ -8,4 +8,5 @@ use Rattle.private_cache.proofs.cache.Cache.count.Goals as goal
 pub returns-clause-free : goal.returns-clause-free
 returns-clause-free c pinned =
     ap (λ (t : Sets LineCopy). length (free_lines t pinned) + cond (has_pinned t pinned) 1 0) (sym c.self.view_is)
-    ∙ free-counted c.self.inside.table pinned c.self.invariant c.listed.ensures.once ∙ sym c.listed.ensures.count
+    ∙ free-counted c.self.inside.table pinned c.self.invariant c.count_listed_lines.ensures.once
+    ∙ sym c.count_listed_lines.ensures.count

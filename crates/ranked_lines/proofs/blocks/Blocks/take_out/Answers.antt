@@ -13,7 +13,8 @@ returns-then-at-len c = rw (← c.self.view_is) record {
 
 pub invariant_of-self : goal.invariant_of-self
 invariant_of-self c = (
-  rw (sym (c.rebalance.ensures.same ∙ c.take_at.ensures.taken)) at (rises-take_out c.args.number _ c.self.invariant.0),
-  c.rebalance.ensures.filled c.take_at.ensures.filled,
-  c.rebalance.ensures.dense (c.take_at.ensures.dense c.self.invariant.2),
+  rw (sym (c.join_short_neighbours.ensures.same ∙ c.take_number_from_block.ensures.taken)) at (rises-take_out
+      c.args.number _ c.self.invariant.0),
+  c.join_short_neighbours.ensures.filled c.take_number_from_block.ensures.filled,
+  c.join_short_neighbours.ensures.dense (c.take_number_from_block.ensures.dense c.self.invariant.2),
 )

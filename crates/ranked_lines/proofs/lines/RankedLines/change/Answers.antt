@@ -7,18 +7,18 @@ pub returns-then-before-after-clause-order : goal.returns-then-before-after-clau
 returns-then-before-after-clause-order c = λ xs ys o h.
     order-kept c.args.self.now c.args.line c.args.before c.args.after xs ys c.if-before-after.true o h
 
-pub returns-then-not-exchange-clause-kept : goal.returns-then-not-exchange-clause-kept
-returns-then-not-exchange-clause-kept c = λ xs o room.
-    absurd (true≢false (sym (c.exchange.ensures.sure (room-left c.args.self.now c.in-Some.numbers xs
+pub returns-then-not-put_in_or_take_out-clause-kept : goal.returns-then-not-put_in_or_take_out-clause-kept
+returns-then-not-put_in_or_take_out-clause-kept c = λ xs o room.
+    absurd (true≢false (sym (c.put_in_or_take_out.ensures.sure (room-left c.args.self.now c.in-Some.numbers xs
     (sym c.self.view_is ∙ c.in-Some.is) o c.args.before c.args.after c.if-before-after.false room))
-    ∙ c.if-not-exchange.true))
+    ∙ c.if-not-put_in_or_take_out.true))
 
-pub returns-else-not-exchange-clause-order : goal.returns-else-not-exchange-clause-order
-returns-else-not-exchange-clause-order c = λ xs ys o h.
-    if-true c.exchange.result _ _ _ c.if-not-exchange.false c.exchange.ensures.numbers
+pub returns-else-not-put_in_or_take_out-clause-order : goal.returns-else-not-put_in_or_take_out-clause-order
+returns-else-not-put_in_or_take_out-clause-order c = λ xs ys o h.
+    if-true c.put_in_or_take_out.result _ _ _ c.if-not-put_in_or_take_out.false c.put_in_or_take_out.ensures.numbers
     ∙ order-exchanged c.args.self.now c.in-Some.numbers xs (sym c.self.view_is ∙ c.in-Some.is) o c.args.line
     c.args.before c.args.after ys c.if-before-after.false c.requires.before c.requires.after h
 
-pub returns-else-not-exchange-clause-kept : goal.returns-else-not-exchange-clause-kept
-returns-else-not-exchange-clause-kept c = λ xs o room.
-    ap (λ blocks. Some blocks) c.exchange.ensures.room ∙ ap room_of (sym (sym c.self.view_is ∙ c.in-Some.is))
+pub returns-else-not-put_in_or_take_out-clause-kept : goal.returns-else-not-put_in_or_take_out-clause-kept
+returns-else-not-put_in_or_take_out-clause-kept c = λ xs o room.
+    ap (λ blocks. Some blocks) c.put_in_or_take_out.ensures.room ∙ ap room_of (sym (sym c.self.view_is ∙ c.in-Some.is))

@@ -21,7 +21,7 @@ returns-in_err-name-clause-early c = λ e is.
 pub invariant_of-test : goal.invariant_of-test
 invariant_of-test c =
     let seen = c.in_ok-add_seen_names.ensures
-        ∙ ap (seen_in (tree_of c.in_ok-quantifier.expr)) c.new-seen.ensures.items in
+    ∙ ap (seen_in (tree_of c.in_ok-quantifier.expr)) c.new-seen.ensures.items in
     record {
       few = c.in_ok-threads.ensures.few;
       all_seen = seen;

@@ -28,7 +28,7 @@ from pathlib import Path
 sys.path.insert(0, str(Path(__file__).resolve().parent.parent))
 from reference import litmus_faults, objects, sequential  # noqa: E402
 from reference.events import list_of_events  # noqa: E402
-from reference.given import NUMBERS, Bad, has_machine  # noqa: E402
+from reference.given import NUMBERS, Bad, contents as bytes_of, has_machine  # noqa: E402
 from reference.litmus import Test  # noqa: E402
 from reference.litmus_faults import LitmusFault  # noqa: E402
 from reference.order import lack_line, lacking, verdict, verdict_line  # noqa: E402
@@ -108,8 +108,8 @@ def tell(turn, about, answer):
 
 def contents(path):
     try:
-        return Path(path).read_bytes()
-    except OSError:
+        return bytes_of(path)
+    except Bad:
         raise Refused(4, "tardis: read failed") from None
 
 

@@ -479,6 +479,9 @@ def of_tool(program):
             status, out, error = tester.run("--seeds", "1", *words, SB)
             runs = sum(map(int, re.findall(rf"by threads \((\d+) of {count}\)", out)))
             tester.expect((status, error, runs) == (0, "", count), f"by threads: {status} {out} {error}")
+    words = ("--seeds", "20", "--threads", "0")
+    got, wanted = tester.run(*words, "/dev/stdin", text=Path(SB).read_bytes()), tester.run(*words, SB)
+    tester.expect((got[0], got[1].replace("/dev/stdin", SB), got[2]) == wanted and wanted[0] == 0, f"a pipe: {got}")
     got = tester.run("--states", "6", SB)
     tester.expect(got == (2, "", f"ends.py: {SB}: {SIX}"), f"6 states: {got}")
     return tester

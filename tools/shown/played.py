@@ -163,6 +163,8 @@ class Played:
 def machine_call(options, cores, memory):
     """The line that opens the machine of the options, with `cores` cores and this memory."""
     named = [("cores", cores)] + [(name, getattr(options, name.replace("-", "_"))) for name in NUMBERS]
+    if not all(0 <= value < 2 ** 64 for _, value in named):
+        raise Bad(bad_configuration(options))
     words = [f"{name} {value}" for name, value in named if name not in ("seed", "limit")]
     words += ["private-write yes"] * options.private_write
     opening = [f"{8 * word:#x} {value}" for word, value in memory.items() if value]

@@ -211,6 +211,8 @@ def tool(main):
     """Runs a tool, with the words of the command line: its status, or one line of what is bad. A reader that goes away,
     as `head` does, and Ctrl-C end it without a word. A file that can't be written is named."""
     try:
+        if sys.stdout is None:
+            raise Bad(f"standard output: {os.strerror(errno.EBADF)}")
         try:
             status = main(sys.argv[1:])
         except SystemExit as ended:

@@ -437,7 +437,10 @@ def graded(tester, folder):
         got = tester.run("--grade", str(listed), SB)
         said = f"ends.py: {listed}: line 1: the list is of {name}, and the test is SB\n"
         tester.expect(got == (2, "", said), f"a list of another test: {got}")
-    for words, said in (((str(listed), SB, SB), "--grade takes one test"), ((str(listed),), "required: TEST"),
+    for words, said in (((str(listed), SB, SB), "--grade takes one test"),
+                        ((str(listed), SB, "--lease", "3"), "--grade makes no runs: it takes no --lease"),
+                        ((str(listed), "--threads", "0", SB), "--grade makes no runs: it takes no --threads"),
+                        ((str(listed),), "required: TEST"),
                         (("none.ends", SB), "none.ends: No such file"), ((str(listed), "none"), "none: No such file"),
                         ((str(listed), str(listed)), f"{listed}: line 1: 4 BadHeader: 'tools/explain.py")):
         status, out, error = tester.run("--grade", *words)

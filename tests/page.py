@@ -673,12 +673,25 @@ def great_times(player, folder):
         yield f"great times: numbers {great}"
 
 
+def bad_players():
+    """Commands that are no player: each is told in one line."""
+    for command, says in (("/bin/cat", "/bin/cat doesn't play texts of events"), ("", "--player: a command is wanted"),
+                          ("'", "--player ': No closing quotation"), ("none", "none: No such file or directory")):
+        ran = subprocess.run([TOP / "tools/page.py", "--player", command, "examples/litmus/SB.litmus"], cwd=TOP,
+                             check=False, capture_output=True, text=True)
+        if (ran.returncode, ran.stdout, ran.stderr.count("\n")) != (2, "", 1) or says not in ran.stderr:
+            yield f"--player {command}: {ran}"
+
+
 def refusals(player, folder):
     """What is answered in one line, and what the page says of a run that isn't all done."""
+    yield from bad_players()
+    (folder / "bad.events").write_text("example x\nmachine cores 99 : opened\nissue 0 R 0x0 : issued\n")
     (folder / "huge.trace").write_text("".join(f"{n % 8} W 0x0 {n}\n" for n in range(900)))
     for words, status, says in (([folder / "huge.trace"], 2, "a page shows 5,000 at most"),
                                 (["README.md"], 2, "README.md: line 3: 4 BadCore"),
                                 (["no.trace"], 2, "no.trace: No such file or directory"),
+                                ([folder / "bad.events"], 2, "`machine cores 99` is refused BadConfig"),
                                 (["--time", "-1", "examples/traces/PAST.trace"], 2, "configuration: --time -1: 0 to"),
                                 (["--limit", "0", "examples/traces/PAST.trace"], 2, "configuration: --limit 0: 1 to"),
                                 (["--limit", "4", "examples/traces/PAST.trace"], 1, "The run was cut")):

@@ -82,8 +82,10 @@ class PlayedText(Played):
                 programs[core].append(of[0] if name == "Issue" else ADVANCE)
         total = sum(map(len, programs))
         asked = ["arranged", "stale", "check", *(f"record {number}" for number in range(total))]
-        answers = self.player.ask([self.machine, *self.events, *asked])[1 + len(self.events):]
-        arranged, stale, self.verdict, *records = answers
+        answers = self.player.ask([self.machine, *self.events, *asked])
+        if answers[0] != "opened":
+            raise Bad(f"{self.text.path}: `{self.machine}` is {answers[0]}")
+        arranged, stale, self.verdict, *records = answers[1 + len(self.events):]
         self.records = read_records("".join(f"{one}\n" for one in records if one != "none").encode())
         self.arranged = [] if arranged == "none" else list(map(int, arranged.split(" ")))
         self.stale = order.stale_loads(self.records)

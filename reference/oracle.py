@@ -21,6 +21,7 @@ it prints what it prints without: a million operations would take hours here.
 the lists of events in place of the report, as docs/EVENTS.md has them. `litmus` may be left out.
 """
 import argparse
+import os
 import re
 import sys
 from pathlib import Path
@@ -266,5 +267,19 @@ def main(given):
     return status
 
 
+def written(given):
+    """The status, where all is written; if standard output can't be written, or a reader goes away, the program's."""
+    try:
+        if sys.stdout is None:
+            raise BrokenPipeError
+        status = main(given)
+        sys.stdout.flush()
+        return status
+    except OSError:
+        os.dup2(os.open(os.devnull, os.O_WRONLY), 1)  # what is left goes there, when Python ends
+        print("tardis: write failed", file=sys.stderr)
+        return 4
+
+
 if __name__ == "__main__":
-    sys.exit(main(sys.argv[1:]))
+    sys.exit(written(sys.argv[1:]))

@@ -48,7 +48,7 @@ NO_CELLS = ["beqq x5,x5,L9", "bne x5,frob,L9", "bne x5,,L9", "subi x7,x5,1", "ad
             "lb x7,0(x6)", "addi x7,x6,4", "li x5,-1", "li x5,2147483648", "sw x6,0(x8)", "li x6,1", "lw q7,0(x6)",
             "li x5,2; li x7,2",
             "lw x7,0(x6)|mv x9,x7", "lw x7,0(x6)|ori x7,x7,1", "lw x7,0(x6)|add x9,x8,x7", "lw x7,0(x6)|ld x7,0(x6)",
-            "beq x5,x0,L9|sw x5,0(x6)", "add x7,x5", "sub x7,x5,x5,x5"]
+            "beq x5,x0,L9|sw x5,0(x6)", "add x7,x5", "sub x7,x5,x5,x5", "#", "//", "lw x7,0(x6)|,"]
 END = "exists (x=1)\n"
 ROW = " sw x5,0(x6) | ;\n"
 # Texts that are refused, with the line.

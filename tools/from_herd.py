@@ -201,7 +201,7 @@ class Column:
 
     def is_spoiled(self, code):
         """Whether an instruction uses what an earlier obstacle spoiled, so that it can't be judged."""
-        name, *words = re.findall(r"[\w.]+", code)
+        name, *words = re.findall(r"[\w.]+", code) or [""]
         is_store = name[:2] in ("sw", "sd")
         used = {REGISTERS.get(word) for word in (words if is_store else words[1:])}
         target = {REGISTERS[word] for word in words[:1] if word in REGISTERS and not is_store}

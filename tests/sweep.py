@@ -502,8 +502,8 @@ def main(program, player):
         for name, text in (("renewed", RENEWED), ("alone", ALONE), ("loads", LOADS), ("bad", "x\n")):
             Path(f"{name}.trace").write_text(text)
         for part in (by_hand, advances, names, goes_on, plot, logarithmic, shown, parts, interrupted, cut_short, fair,
-                     passed_on, compared, traces_apart, piped, by_the_second, by_lines, points, points_in_parts, told_apart,
-                     refusals, large, appended):
+                     passed_on, compared, traces_apart, piped, by_the_second, by_lines, points, points_in_parts,
+                     told_apart, refusals, large, appended):
             part(tester)
         os.chdir(TOP)
     print(f"{tester.tried} tried, {tester.wrong} wrong")

@@ -5,6 +5,7 @@ A tool's `--help` is its own docstring and its options. It reports a bad text or
 import argparse
 import errno
 import os
+import re
 import sys
 from pathlib import Path
 
@@ -24,10 +25,16 @@ NUMBERS = {"seed": (0, "the seed, with --schedule seed"), "limit": (100000, "the
            "ways": (4, "the copies of such a set"), "bank-sets": (256, "the sets of a bank"),
            "bank-ways": (8, "the entries of such a set"), "line-words": (1, "the words of a line, 1 or 8"),
            "messages": (4096, "the most messages in flight")}
+# The ranges of those that are the run's, and not the machine's.
+RUN = {"limit": (1, 2 ** 32 - 1), "seed": (0, 2 ** 64 - 1)}
 
 
 # Why standard output can't be written.
 UNWRITTEN = (errno.ENOSPC, errno.EIO, errno.EFBIG, errno.EDQUOT, errno.EBADF)
+
+
+# What was read of pipes and other files that can't be read twice, by their paths.
+KEPT = {}
 
 
 class Bad(Exception):
@@ -39,6 +46,7 @@ class Words(argparse.ArgumentParser):
 
     def __init__(self, about):
         super().__init__(description=about, allow_abbrev=False, formatter_class=argparse.RawDescriptionHelpFormatter)
+        self.ranges = {}  # of options that no machine has
 
     def error(self, message):
         raise Bad(f"{message} (--help tells all)")
@@ -47,14 +55,19 @@ class Words(argparse.ArgumentParser):
         options = super().parse_args(*words)
         if getattr(options, "fair", None) is True and options.schedule != "round":
             raise Bad("--fair needs --schedule round")
+        for name, (least, most) in self.ranges.items():
+            number = getattr(options, name)
+            if not least <= number <= most:
+                raise Bad(f"bad configuration: --{name} {number}: {least} to {most}")
         return options
 
     def run_options(self):
         """The options of a run, and whose run it is."""
+        self.ranges = RUN
         self.add_argument("FILE", help="a litmus test or a trace")
         self.add_argument("--schedule", choices=["round", "seed"], default="round", help="as in docs/SCHEDULES.md")
         for name, (usual, says) in NUMBERS.items():
-            self.add_argument("--" + name, type=int, default=usual, metavar="N", help=f"{says} ({usual})")
+            self.add_argument("--" + name, type=whole, default=usual, metavar="N", help=f"{says} ({usual})")
         self.add_argument("--fair", action="store_true", help="with --schedule round, fair rounds")
         self.add_argument("--private-write", action="store_true", help="an owner's further stores take no later time")
         self.core_option()
@@ -68,12 +81,22 @@ class Words(argparse.ArgumentParser):
                           help="the cores that are shown, as 0,2 or 0-3")
 
 
+def whole(text):
+    """A whole number in decimal digits, perhaps behind a sign."""
+    if not re.fullmatch("[+-]?[0-9]{1,40}", text):
+        raise argparse.ArgumentTypeError(f"{text} isn't a number")
+    return int(text)
+
+
 def cores_named(text):
     """The cores of a list such as 0,2-4."""
     cores = set()
     for part in text.split(","):
-        first, _, last = part.partition("-")
-        cores.update(range(int(first), int(last or first) + 1))
+        found = re.fullmatch("([0-9]{1,3})(?:-([0-9]{1,3}))?", part)
+        some = found and range(int(found[1]), int(found[2] or found[1]) + 1)
+        if not some:
+            raise argparse.ArgumentTypeError(f"{text} isn't a list of cores, as 0,2 or 0-3")
+        cores.update(some)
     return cores
 
 
@@ -83,7 +106,7 @@ class Subject:
     def __init__(self, path):
         text = contents(path)
         self.path, self.test = path, None
-        if text.split()[:1] == [b"RISCV"]:
+        if text.split()[:1] == [b"RISCV"] or str(path).endswith(".litmus"):
             self.test = litmus_test(path, text)
             self.kind, self.memory, self.words = self.test.name, self.test.memory, self.test.words
             self.cores = len(self.test.threads)
@@ -103,17 +126,16 @@ class Subject:
         """The number of a word that is named, as x or as 0x8."""
         if name in self.words:
             return self.words[name]
-        try:
-            return int(name, 16) // 8
-        except ValueError:
-            raise Bad(f"{self.path} names no word {name}") from None
+        if not re.fullmatch("0x[0-9a-fA-F]{1,16}", name):
+            raise Bad(f"{self.path} names no word {name}")
+        if int(name, 16) % 8:
+            raise Bad(f"{name} isn't a multiple of 8, and no word has that address")
+        return int(name, 16) // 8
 
     def run(self, options, kind=Run):
         """A run on the second program's machine, and its end."""
         if not has_machine(options, self.cores):
             raise Bad(bad_configuration(options))
-        if options.limit < 1:
-            raise Bad("bad configuration: --limit is 1 or more")
         self.chosen(options)
         return drive(options, self.programs(), self.memory, options.seed, None, kind)
 
@@ -122,6 +144,14 @@ class Subject:
         if options.cores is not None and not options.cores <= set(range(self.cores)):
             raise Bad(f"{self.path} has the cores 0 to {self.cores - 1}")
         return range(self.cores) if options.cores is None else sorted(options.cores)
+
+
+def status_of(path, end):
+    """1 if the run isn't all done, so that what is shown is its beginning: standard error says how it ended. Else 0."""
+    if end != "all-done":
+        print(f"{Path(sys.argv[0]).name}: {path}: end {end}: this is the run's beginning (docs/ENDING.md says why)",
+              file=sys.stderr)
+    return int(end != "all-done")
 
 
 def has_machine(options, cores):
@@ -139,8 +169,14 @@ def bad_configuration(options):
 
 
 def contents(path):
+    """The bytes of a file. What a pipe had is kept, since it can't be read again."""
     try:
-        return Path(path).read_bytes()
+        if str(path) not in KEPT:
+            text = Path(path).read_bytes()
+            if Path(path).is_file():
+                return text
+            KEPT[str(path)] = text
+        return KEPT[str(path)]
     except OSError as error:
         raise Bad(f"{path}: {error.strerror}") from None
 
@@ -173,8 +209,10 @@ def records_of(path):
 
 def tool(main):
     """Runs a tool, with the words of the command line: its status, or one line of what is bad. A reader that goes away,
-    as `head` does, and Ctrl-C end it without a word."""
+    as `head` does, and Ctrl-C end it without a word. A file that can't be written is named."""
     try:
+        if sys.stdout is None:
+            raise Bad(f"standard output: {os.strerror(errno.EBADF)}")
         try:
             status = main(sys.argv[1:])
         except SystemExit as ended:
@@ -185,10 +223,11 @@ def tool(main):
         os.dup2(os.open(os.devnull, os.O_WRONLY), 1)  # what is left goes there, when Python ends
         sys.exit(1)
     except OSError as error:
-        if error.filename is not None or error.errno not in UNWRITTEN:
+        if error.filename is None and error.errno not in UNWRITTEN:
             raise
         os.dup2(os.open(os.devnull, os.O_WRONLY), 1)
-        print(f"{Path(sys.argv[0]).name}: standard output: {error.strerror}", file=sys.stderr)
+        named = "standard output" if error.filename is None else error.filename
+        print(f"{Path(sys.argv[0]).name}: {named}: {error.strerror}", file=sys.stderr)
         sys.exit(2)
     except Bad as cause:
         print(f"{Path(sys.argv[0]).name}: {cause}", file=sys.stderr)

@@ -5,24 +5,29 @@ NAME = r"\d+:x\d+|[A-Za-z_]\w*"  # a register of a thread, or a location
 
 
 class Test:
-    """What a text says: name, threads (lists of instructions), how they open, locations, condition."""
+    """What a text says: name, threads (lists of instructions), how they open, locations, condition. Of the text itself
+    there are the header lines, the initial block, the table, and the question: keyword and expression, in one line."""
 
     def __init__(self, text):
         self.name = text.split("\n")[0].split()[1]
-        opening, rest = re.split(r"^[ \t\r]*{", text, maxsplit=1, flags=re.M)[1].split("}", 1)
+        # A header line may have braces, too. None begins with one.
+        preamble, text = re.split(r"^[ \t\r]*{", text, maxsplit=1, flags=re.M)
+        self.header = preamble.partition("\n")[2]
+        self.opening, rest = text.split("}", 1)
         self.words = {}    # location -> word number, in the order of first naming
         self.memory = {}   # word number -> opening value
         self.start = {}    # (thread, register) -> opening value, or word number of an address register
-        for item in filter(None, (re.sub(r"\s", "", i) for i in opening.split(";"))):
+        for item in filter(None, (re.sub(r"\s", "", i) for i in self.opening.split(";"))):
             left, right = item.split("=")
             thread, _, register = left.partition(":")
             if register:
                 self.start[int(thread), register] = int(right) if right.isdigit() else self.word(right)
             else:
                 self.memory[self.word(left)] = int(right)
-        table, self.kind, condition = re.fullmatch(
-            r"(.*?)^[ \t]*(exists|~exists|forall)\b(.*)", rest, re.S | re.M).groups()
-        rows = [line.strip().rstrip(";").split("|") for line in table.split("\n") if line.strip()]
+        self.table, self.kind, condition = re.fullmatch(
+            r"(.*?)^[ \t\r]*(exists|~exists|forall)\b(.*)", rest, re.S | re.M).groups()
+        self.question = " ".join((self.kind + condition).split())
+        rows = [line.strip().rstrip(";").split("|") for line in self.table.split("\n") if line.strip()]
         self.threads = [[self.instruction(thread, row[thread].strip()) for row in rows[1:] if row[thread].strip()]
                         for thread in range(len(rows[0]))]
         condition = re.sub(r"\s*([:=])\s*", r"\1", " ".join(condition.split()))

@@ -21,6 +21,7 @@ it prints what it prints without: a million operations would take hours here.
 the lists of events in place of the report, as docs/EVENTS.md has them. `litmus` may be left out.
 """
 import argparse
+import os
 import re
 import sys
 from pathlib import Path
@@ -28,7 +29,7 @@ from pathlib import Path
 sys.path.insert(0, str(Path(__file__).resolve().parent.parent))
 from reference import litmus_faults, objects, sequential  # noqa: E402
 from reference.events import list_of_events  # noqa: E402
-from reference.given import NUMBERS, Bad, has_machine  # noqa: E402
+from reference.given import NUMBERS, Bad, contents as bytes_of, has_machine  # noqa: E402
 from reference.litmus import Test  # noqa: E402
 from reference.litmus_faults import LitmusFault  # noqa: E402
 from reference.order import lack_line, lacking, verdict, verdict_line  # noqa: E402
@@ -108,8 +109,8 @@ def tell(turn, about, answer):
 
 def contents(path):
     try:
-        return Path(path).read_bytes()
-    except OSError:
+        return bytes_of(path)
+    except Bad:
         raise Refused(4, "tardis: read failed") from None
 
 
@@ -266,5 +267,19 @@ def main(given):
     return status
 
 
+def written(given):
+    """The status, where all is written; if standard output can't be written, or a reader goes away, the program's."""
+    try:
+        if sys.stdout is None:
+            raise BrokenPipeError
+        status = main(given)
+        sys.stdout.flush()
+        return status
+    except OSError:
+        os.dup2(os.open(os.devnull, os.O_WRONLY), 1)  # what is left goes there, when Python ends
+        print("tardis: write failed", file=sys.stderr)
+        return 4
+
+
 if __name__ == "__main__":
-    sys.exit(main(sys.argv[1:]))
+    sys.exit(written(sys.argv[1:]))

@@ -81,7 +81,10 @@ REFUSED = {"PodWR Fre PodWR": "PodWR leads to a load, and PodWR begins at a stor
            "Rfe Fre": "Rfe Fre says what Wse says", "PodWR Fre": "two Pod at least", "PodXR Fre": "PodXR is no edge",
            "Rfe PodRR Fre" + " PodWR Fre" * 5: "a cycle has 12 edges at most",
            "": "edges are wanted", "--all 3": "4 to 8 edges", "--all 9": "4 to 8 edges", "--all 5 SB": "edges are wanted",
-           "--all 4 --into nowhere": "nowhere is no folder", "--why none.litmus": "none.litmus: No such file",
+           "--all 4 --into nowhere": "nowhere is no folder", "SB --into .": "--into needs --all",
+           "--into . --why examples/litmus/SB.litmus": "--into needs --all",
+           "--all 4 --into /proc": "/proc/LB.litmus: No such file or directory",
+           "--why none.litmus": "none.litmus: No such file",
            "--why LICENSE": "LICENSE: line 1: 4 BadHeader", "--why examples/litmus/PRIVATE.litmus": "executions, and"}
 
 

@@ -437,7 +437,10 @@ def graded(tester, folder):
         got = tester.run("--grade", str(listed), SB)
         said = f"ends.py: {listed}: line 1: the list is of {name}, and the test is SB\n"
         tester.expect(got == (2, "", said), f"a list of another test: {got}")
-    for words, said in (((str(listed), SB, SB), "--grade takes one test"), ((str(listed),), "required: TEST"),
+    for words, said in (((str(listed), SB, SB), "--grade takes one test"),
+                        ((str(listed), SB, "--lease", "3"), "--grade makes no runs: it takes no --lease"),
+                        ((str(listed), "--threads", "0", SB), "--grade makes no runs: it takes no --threads"),
+                        ((str(listed),), "required: TEST"),
                         (("none.ends", SB), "none.ends: No such file"), ((str(listed), "none"), "none: No such file"),
                         ((str(listed), str(listed)), f"{listed}: line 1: 4 BadHeader: 'tools/explain.py")):
         status, out, error = tester.run("--grade", *words)
@@ -479,6 +482,9 @@ def of_tool(program):
             status, out, error = tester.run("--seeds", "1", *words, SB)
             runs = sum(map(int, re.findall(rf"by threads \((\d+) of {count}\)", out)))
             tester.expect((status, error, runs) == (0, "", count), f"by threads: {status} {out} {error}")
+    words = ("--seeds", "20", "--threads", "0")
+    got, wanted = tester.run(*words, "/dev/stdin", text=Path(SB).read_bytes()), tester.run(*words, SB)
+    tester.expect((got[0], got[1].replace("/dev/stdin", SB), got[2]) == wanted and wanted[0] == 0, f"a pipe: {got}")
     got = tester.run("--states", "6", SB)
     tester.expect(got == (2, "", f"ends.py: {SB}: {SIX}"), f"6 states: {got}")
     return tester

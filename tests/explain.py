@@ -234,6 +234,9 @@ SLIPS = [("lw x7,x6", "", "The operands of `lw` are xD,0(xB)."), ("ldr x5,[x6]",
          ("", "(1:x7=1)", "A condition begins with `exists`"),
          ("", "forrall (x=1)", "did you mean `forall`?"), ("", "exists (1:r7=1)", "Registers are x0 to x31."),
          ("", "exists (P1:x7=1)", "`1:x7`, not `P1:x7`"), ("", "exists (1:x7=-1)", "No number is negative."),
+         ("", "exists (1:x7=0, x=1)", "joined by `/\\` and `\\/` alone."),
+         ("", "exists x7=1", "its thread in front, as `0:x7`."),
+         ("", "exists (x=1 /\\ x7=1)", "its thread in front, as `0:x7`."), ("", "exists (1:x0=0)", "x0 is always 0"),
          ("", "exists (1:x7=1))", "A parenthesis too many"), ("", "exists (3:x7=1)", "There is no thread 3"),
          ("", "exists [x]=1", "`tools/from_herd.py` converts it"),
          ("", "forall (1:x7=1 => x=1)", "`tools/from_herd.py` converts this test"),
@@ -249,7 +252,10 @@ WARNED = [
         "x in the condition: no instruction stores it, so it is always 3"]),
     ("RISCV T\n{ 0:x6=x; 0:x7=2; }\n P0 ;\n amoswap.w x5,x7,(x6) ;\nexists (0:x7=1)\n", [
         "0:x7 in the condition: no instruction of P0 writes x7, so it is always 2"]),
-    ("RISCV T\n{ 0:x6=x; }\n P0 ;\n sw x0,0(x6) ;\n lw x5,0(x6) ;\n sw x5,0(x6) ;\nexists (0:x5=1)\n", [])]
+    ("RISCV T\n{ 0:x6=x; }\n P0 ;\n sw x0,0(x6) ;\n lw x5,0(x6) ;\n sw x5,0(x6) ;\nexists (0:x5=1)\n", []),
+    # What a header line has isn't the block, and a carriage return may stand before the condition.
+    ("RISCV T\n\"{ 7:x6=x; } (x8)\"\n{ 0:x6=x; 0:x8=y; 0:x5=1; }\n P0 ;\n sw x5,0(x6) ;\n\r exists x=1\n", [
+        "0:x8=y: no instruction of P0 uses that address"])]
 
 
 # Over an opening: its text, and lines that must be told of two loads of 0x8, of which one received 5 and one 6.
@@ -415,7 +421,20 @@ def runs(tester):
         tester.expect((status, out, error.count("\n")) == (2, "", 1) and wanted in error, f"{words}: {status} {error}")
 
 
+def piped(tester):
+    """Files that can be read only once."""
+    texts = [(TOP / f"examples/{name}").read_bytes() for name in ("litmus/SB.litmus", "traces/PAST.trace")]
+    good, done = (f"/dev/stdin: nothing is wrong{words}\n" for words in (" with this text", ", all is done"))
+    for words, text, wanted in ((["/dev/stdin"], texts[0], good), (["/dev/stdin"], texts[1], good),
+                                (["--", "litmus", "/dev/stdin"], texts[0], done),
+                                (["--", "trace", "/dev/stdin"], texts[1], done),
+                                (["/dev/stdin", str(TOP / "examples/traces/PAST.records")], texts[1], "legal\n")):
+        got = tester.run(*words, text=text)
+        tester.expect(got == (0, wanted, ""), f"{words} through a pipe: {got}")
+
+
 def others(tester):
+    piped(tester)
     tester.tells(["nothing is wrong"], MP.encode(), names=["good.trace"], is_good=True)
     test = (TOP / "examples/litmus/SB.litmus").read_bytes()
     tester.tells(["nothing is wrong"], test, names=["SB.litmus"], is_good=True)

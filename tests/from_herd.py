@@ -48,7 +48,7 @@ NO_CELLS = ["beqq x5,x5,L9", "bne x5,frob,L9", "bne x5,,L9", "subi x7,x5,1", "ad
             "lb x7,0(x6)", "addi x7,x6,4", "li x5,-1", "li x5,2147483648", "sw x6,0(x8)", "li x6,1", "lw q7,0(x6)",
             "li x5,2; li x7,2",
             "lw x7,0(x6)|mv x9,x7", "lw x7,0(x6)|ori x7,x7,1", "lw x7,0(x6)|add x9,x8,x7", "lw x7,0(x6)|ld x7,0(x6)",
-            "beq x5,x0,L9|sw x5,0(x6)", "add x7,x5", "sub x7,x5,x5,x5"]
+            "beq x5,x0,L9|sw x5,0(x6)", "add x7,x5", "sub x7,x5,x5,x5", "#", "//", "lw x7,0(x6)|,"]
 END = "exists (x=1)\n"
 ROW = " sw x5,0(x6) | ;\n"
 # Texts that are refused, with the line.
@@ -257,7 +257,28 @@ def logs(tester):
     tester.expect(good and status == 0, f"--log: {out} {error}")
 
 
+def into(tester):
+    """Two tests of one name, and a test that would be replaced by its own conversion: neither is lost."""
+    folder = tester.file.parent / "into"
+    folder.mkdir()
+    one, two, own = (folder / name for name in ("one", "two", "T.litmus"))
+    texts = [f'RISCV T\n"{name}"\n{{ 0:x6=x; }}\n P0 ;\n lw x7,0(x6) ;\nexists (0:x7=0)\n' for name in ("1", "2")]
+    one.write_text(texts[0])
+    two.write_text(texts[1])
+    got = tester.run("--into", str(folder), str(one), str(two))
+    said = f"from_herd.py: {two}: {own} has the test of {one}, by the same name\n"
+    tester.expect(got == (2, "", said) and '"1"' in own.read_text(), f"two tests of one name: {got}")
+    own.write_text(texts[1] + "(* a note *)\n")
+    for path in (own, one):
+        got = tester.run("--into", str(folder), str(path), str(own))
+        said = f"from_herd.py: {path}: {own} is a test that is converted: name another folder\n"
+        tester.expect(got == (2, "", said) and "a note" in own.read_text(), f"a test in its own place: {got}")
+    got = tester.run("--into", "/proc", str(one))
+    tester.expect(got == (2, "", "from_herd.py: /proc/T.litmus: No such file or directory\n"), f"/proc: {got}")
+
+
 def others(tester):
+    into(tester)
     for refused in NO_TEXTS:
         tester.is_refused(*refused)
     saved, wanted = tester.turned(SAVED), tester.turned(OPENING + ROW + END)

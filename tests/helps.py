@@ -5,7 +5,8 @@ Help comes on standard output, with status 0, and no tool writes a file of the r
 a tool without a word. For a missing file and one of another kind, each tool writes one line and ends with status 2;
 reference/oracle.py ends with status 4 for a missing one. The script also tries tools/page.py in copies of the
 repository: who plays, if the proved player isn't built, is built, or is older than a source; and what ./tardis and
-./tardis --unproved hand on; and what tools take for options that aren't given. The last line is `N tried, M wrong`.
+./tardis --unproved hand on; what tools take for options that aren't given, and what is said where standard output
+can't be written. The last line is `N tried, M wrong`.
 """
 import os
 import re
@@ -58,6 +59,29 @@ def pipes():
         told = ran(["sh", "-c", f"{words} | head -n 1"])
         if told.stderr or told.stdout.count("\n") != 1:
             yield f"{words} | head -n 1: {told.stdout!r}, {told.stderr[-160:]!r}"
+
+
+# What can't be written to, and what a tool says of it in its own name.
+UNWRITTEN = {">/dev/full": "No space left on device", ">&-": "Bad file descriptor"}
+
+
+def unwritten():
+    """Faults in what the second program says, as the program does (docs/TEXTS.md, The program), and in what a tool
+    says, where standard output can't be written. A reader that is gone before a report is written is one such case."""
+    oracle, tool = "reference/oracle.py litmus examples/litmus/SB.litmus", "tools/cycles.py SB"
+    cases = [(f"{oracle} {where}", (4, "", "tardis: write failed\n")) for where in UNWRITTEN]
+    cases += [(f"{tool} {where}", (2, "", f"cycles.py: standard output: {cause}\n"))
+              for where, cause in UNWRITTEN.items()]
+    for words, wanted in cases:
+        got = ran(["sh", "-c", words])
+        if (got.returncode, got.stdout, got.stderr) != wanted:
+            yield f"{words}: {got}"
+    reader, writer = os.pipe()
+    os.close(reader)
+    got = subprocess.run(oracle.split(), cwd=TOP, check=False, stdout=writer, stderr=subprocess.PIPE)
+    os.close(writer)
+    if (got.returncode, got.stderr) != (4, b"tardis: write failed\n"):
+        yield f"a reader that is gone: {got}"
 
 
 def defaults():
@@ -162,10 +186,11 @@ def main():
         if got.returncode != wanted or got.stdout or got.stderr.count("\n") != 1:
             wrong.append(f"{words.format(path)}: status {got.returncode}, {got.stderr[-160:]!r}")
     wrong += pipes()
+    wrong += unwritten()
     wrong += defaults()
     wrong += page_players()
     wrong += launched()
-    tried = len(tools) + 2 * len(READERS) + len(PIPED) + len(NUMBERS) + 9
+    tried = len(tools) + 2 * len(READERS) + len(PIPED) + len(NUMBERS) + 14
     print("\n".join([*wrong, f"{tried} tried, {len(wrong)} wrong"]))
     return int(bool(wrong))
 

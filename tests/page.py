@@ -495,6 +495,36 @@ def data_of(path):
     return json.loads(re.search(r'(?s)<script id="data"[^>]*>(.*?)</script>', path.read_text())[1])
 
 
+# A test whose header has braces, and whose block has a line that begins as a condition does. It ends as asked.
+BRACES = """RISCV BRACES
+Orig={a}
+"what of {x}?"
+{ 0:x5=1; 0:x6=x;
+exists=2;
+0:x8=exists; }
+ P0          ;
+ sw x5,0(x6) ;
+ lw x7,0(x8) ;
+\r exists (0:x7=2 /\\
+exists=2)
+"""
+ASKED = {"asked": "what of {x}?", "condition": "exists (0:x7=2 /\\ exists=2)", "registers": [[None, "x7"]],
+         "answer": "0:x7=2 exists=2: the end asked for; verdict yes"}
+
+
+def braces(player, folder):
+    """The question of such a test, from a file and through a pipe."""
+    path = folder / "braces.litmus"
+    path.write_text(BRACES, newline="")
+    for words, text in (([path], b""), (["/dev/stdin"], path.read_bytes())):
+        with (folder / "braces.html").open("wb") as out:
+            subprocess.run([TOP / "tools/page.py", "--player", shlex.quote(player), *words], cwd=TOP, check=False,
+                           stdout=out, input=text)
+        found = data_of(folder / "braces.html")["question"]
+        if found != ASKED:
+            yield f"{words}: {found}, wanted {ASKED}"
+
+
 def questions(player, folder):
     """The question of litmus tests, and a history that a changed rule made wrong."""
     for name, (registers, said) in QUESTIONS.items():
@@ -643,12 +673,27 @@ def great_times(player, folder):
         yield f"great times: numbers {great}"
 
 
+def bad_players():
+    """Commands that are no player: each is told in one line."""
+    for command, says in (("/bin/cat", "/bin/cat doesn't play texts of events"), ("", "--player: a command is wanted"),
+                          ("'", "--player ': No closing quotation"), ("none", "none: No such file or directory")):
+        ran = subprocess.run([TOP / "tools/page.py", "--player", command, "examples/litmus/SB.litmus"], cwd=TOP,
+                             check=False, capture_output=True, text=True)
+        if (ran.returncode, ran.stdout, ran.stderr.count("\n")) != (2, "", 1) or says not in ran.stderr:
+            yield f"--player {command}: {ran}"
+
+
 def refusals(player, folder):
     """What is answered in one line, and what the page says of a run that isn't all done."""
+    yield from bad_players()
+    (folder / "bad.events").write_text("example x\nmachine cores 99 : opened\nissue 0 R 0x0 : issued\n")
     (folder / "huge.trace").write_text("".join(f"{n % 8} W 0x0 {n}\n" for n in range(900)))
     for words, status, says in (([folder / "huge.trace"], 2, "a page shows 5,000 at most"),
                                 (["README.md"], 2, "README.md: line 3: 4 BadCore"),
                                 (["no.trace"], 2, "no.trace: No such file or directory"),
+                                ([folder / "bad.events"], 2, "`machine cores 99` is refused BadConfig"),
+                                (["--time", "-1", "examples/traces/PAST.trace"], 2, "configuration: --time -1: 0 to"),
+                                (["--limit", "0", "examples/traces/PAST.trace"], 2, "configuration: --limit 0: 1 to"),
                                 (["--limit", "4", "examples/traces/PAST.trace"], 1, "The run was cut")):
         came, said = written(player, list(map(str, words)), folder / "refused.html")
         if came != status or says not in said or said.count("\n") != 1:
@@ -694,6 +739,7 @@ def main(given):
             faults += [f"{words[-1]}: more than 4 MB"] if path.stat().st_size > MOST_BYTES else []
         faults += refusals(player, folder)
         faults += questions(player, folder)
+        faults += braces(player, folder)
         faults += counted(player, folder)
         faults += great_times(player, folder)
         faults += [f"{name}: {data_of(pages[name])['how']}, wanted {how}" for name, how in HOWS.items()

@@ -267,6 +267,7 @@ def refusals(tester, folder):
                         ([str(2 ** 64), "9", TEST], "argument FIRST"),
                         (["0", "9", TEST, "--lease", "0"], f"{TEST}: "),
                         (["0", "9", TEST, "--runs", "8"], f"{TEST}: "),
+                        (["0", "9", TEST, "--json"], "reports that are joined have lines: --json has none"),
                         (["0", "9", "README.md"],
                          "README.md: line 1: 4 BadHeader: 'tools/explain.py -- litmus README.md' says why"),
                         ([*part, "3", "0", "9", TEST], "--part K wants --parts N"),
@@ -279,6 +280,10 @@ def refusals(tester, folder):
         good = (status, out, error.count("\n")) == (2, "", 1) and said in error
         tester.expect(good, f"{words}: {status} {out!r} {error!r}, wanted {said!r}")
     tester.expect(not list(Path(folder).iterdir()), f"left: {list(Path(folder).iterdir())}")
+    for where, cause in ((">/dev/full", "No space left on device"), (">&-", "Bad file descriptor")):
+        ran = subprocess.run(f"{tester.program} 0 9 {TEST} {where}", shell=True, check=False, stderr=subprocess.PIPE)
+        wanted = 2, f"seeds.py: standard output: {cause}\n".encode()
+        tester.expect((ran.returncode, ran.stderr) == wanted, f"{where}: {ran}")
 
 
 def an_ended_program(tester, folder):

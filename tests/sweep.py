@@ -333,6 +333,23 @@ def traces_apart(tester):
         tester.expect(said[-2:] == wanted and len(lines) == 2, f"{traces}: {said} {lines}")
 
 
+def piped(tester):
+    """A trace that can be read only once: each run has all of it, by the program's report and by its counts."""
+    Path("pipes").mkdir()
+    for number, words in enumerate((["--lease", "1,2", "--advance", "0,1"],
+                                    ["--lease", "1,2", "--counts", "--program", os.environ["TARDIS"]])):
+        plain, pipe = (Path("pipes", f"{name}{number}.csv") for name in ("plain", "pipe"))
+        got = [tester.run("--csv", str(plain), *words, "renewed.trace"),
+               tester.run("--csv", str(pipe), *words, "/dev/stdin", text=RENEWED.encode())]
+        rows = [path.read_text().replace("/dev/stdin", "renewed.trace") for path in (plain, pipe)]
+        good = [status for status, *_ in got] == [0, 0] and rows[0] == rows[1] and ",all-done," in rows[0]
+        tester.expect(good, f"{words} through a pipe: {got} {rows}")
+    counts = str(TOP / "tools/counts.py"), "--program", os.environ["TARDIS"]
+    got = [subprocess.run([*counts, path], input=RENEWED.encode(), capture_output=True, check=False).stdout
+           for path in ("renewed.trace", "/dev/stdin")]
+    tester.expect(got[0] == got[1] and b"\nevents 0\n" not in got[0], f"counts.py --program through a pipe: {got}")
+
+
 def by_the_second(tester):
     """What the program refuses, the second program refuses with the same words."""
     words = ["--lease", "0,1,4294967297", "--limit", "0,100", "--banks", "1,9", "renewed.trace", "bad.trace", "none"]
@@ -485,8 +502,8 @@ def main(program, player):
         for name, text in (("renewed", RENEWED), ("alone", ALONE), ("loads", LOADS), ("bad", "x\n")):
             Path(f"{name}.trace").write_text(text)
         for part in (by_hand, advances, names, goes_on, plot, logarithmic, shown, parts, interrupted, cut_short, fair,
-                     passed_on, compared, traces_apart, by_the_second, by_lines, points, points_in_parts, told_apart,
-                     refusals, large, appended):
+                     passed_on, compared, traces_apart, piped, by_the_second, by_lines, points, points_in_parts,
+                     told_apart, refusals, large, appended):
             part(tester)
         os.chdir(TOP)
     print(f"{tester.tried} tried, {tester.wrong} wrong")

@@ -393,8 +393,14 @@ def past_limits():
         yield "line 260: 2 TooLarge", FRONT + "exists (" + f") {connective}\n(".join(parts) + ")\n"
 
 
+# Carriage returns are blanks, also in front of the block, the rows and the condition. Header lines may have braces.
+BLANK_FRONTS = ('RISCV A\r\n\r"{ 3:x6=x; }"\r\nk={\r\n\r{ 0:x5=1; 0:x6=x; }\r\n\r P0 ;\r\n\r\tsw x5,0(x6) ;\r\n'
+                '\r\r\texists\r(\rx=1\r)\r\n\r')
+
+
 def limits(tester):
     """Litmus texts at each limit, and past it. Even after the longest text, the program looks at the configuration."""
+    tester.reports("carriage returns", BLANK_FRONTS)
     for what, text in at_limits():
         tester.reports(what, text)
     for fault, text in past_limits():

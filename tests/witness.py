@@ -80,6 +80,12 @@ def refusals(tester):
     tester.expect((status, error) == (0, "") and "--seeds" in out, f"--help: {status} {error}")
 
 
+def piped(tester):
+    """A test that can be read only once: each range of seeds has it anew."""
+    got, wanted = tester.run("--seeds", "20", "/dev/stdin", text=Path(SB).read_bytes()), tester.run("--seeds", "20", SB)
+    tester.expect((got[0], got[1].replace("/dev/stdin", SB), got[2]) == wanted and wanted[0] == 0, f"a pipe: {got}")
+
+
 def a_dash(tester):
     """A test whose name begins with a dash, in the folder where the script runs."""
     text = Path(SB).read_bytes()
@@ -164,6 +170,7 @@ def main(program):
         tries(tester, *case)
     refusals(tester)
     a_dash(tester)
+    piped(tester)
     beyond_a_million(tester)
     stalled(tester)
     no_memory(tester)

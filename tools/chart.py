@@ -7,12 +7,14 @@ Time goes down, with a row for each event. Each core, each bank and each DRAM ha
 the event that sends it to its first delivery, with its number and its times: a reader's time (pts), the version and
 the end of the lease (wts..rts), or a time that a lease is to reach (rts). A message that waits at its end is dotted
 there until it is taken. Operations are next to their core; a load that reads the past is red.
+
+If the run isn't all done, its beginning is shown, standard error says how it ended, and the status is 1.
 """
 import sys
 from pathlib import Path
 
 sys.path.insert(0, str(Path(__file__).resolve().parent.parent))
-from reference.given import Subject, Words, tool  # noqa: E402
+from reference.given import Subject, Words, status_of, tool  # noqa: E402
 from reference.order import overwriting  # noqa: E402
 from reference.schedules import Run  # noqa: E402
 from tools.drawn import Labels, halo, text  # noqa: E402
@@ -158,19 +160,26 @@ def picture(run):
     return "\n".join([*lines, "</svg>"]) + "\n"
 
 
-def chart(given):
-    """The chart of a run; these are the words of the command line."""
+def charted(given):
+    """The chart of a run, the file and how the run ended; these are the words of the command line."""
     words = Words(__doc__)
     words.run_options()
     options = words.parse_args(list(map(str, given)))
     subject = Subject(options.FILE)
     Charted.subject, Charted.shown = subject, subject.chosen(options)
-    return picture(subject.run(options, Charted)[0])
+    run, end = subject.run(options, Charted)
+    return picture(run), options.FILE, end
+
+
+def chart(given):
+    """The chart of a run."""
+    return charted(given)[0]
 
 
 def main(given):
-    sys.stdout.write(chart(given))
-    return 0
+    drawn, path, end = charted(given)
+    sys.stdout.write(drawn)
+    return status_of(path, end)
 
 
 if __name__ == "__main__":

@@ -2,6 +2,7 @@
 import subprocess
 
 from reference.given import NUMBERS, Bad
+from tools.program import opened
 
 
 KINDS = ("ShReq", "ExReq", "ShRep", "ExRep", "RenewRep", "UpgradeRep", "FlushReq", "WbReq", "FlushRep", "WbRep",
@@ -94,7 +95,7 @@ def printed(program, words, path, every=None):
     path = f"./{path}" if str(path).startswith("-") else path
     rows = ["--every", str(every)] if every else []
     try:
-        ran = subprocess.run([program, "trace", "--counts", *rows, *words, path], stdout=subprocess.PIPE,
+        ran = subprocess.run([program, "trace", "--counts", *rows, *words, opened(str(path))], stdout=subprocess.PIPE,
                              stderr=subprocess.PIPE, stdin=subprocess.DEVNULL, check=False)
     except OSError as error:
         raise Bad(f"{program}: {error.strerror}") from None

@@ -226,6 +226,8 @@ def main(given):
     options = words.parse_args(given)
     if bool(options.EDGE) + (options.all is not None) + bool(options.why) != 1:
         raise Bad("edges are wanted, or --all, or --why (--help tells all)")
+    if options.into is not None and options.all is None:
+        raise Bad("--into needs --all (--help tells all)")
     if options.why:
         told = [told_why(path) for path in options.why]
         print("\n".join(line for lines, _ in told for line in lines))

@@ -212,10 +212,20 @@ def words():
     return parser
 
 
+def refuse_runs(parser, options):
+    """A list is graded without a run."""
+    for action in parser._actions:
+        if action.dest not in ("help", "tests", "states", "grade") and getattr(options, action.dest) != action.default:
+            raise Bad(f"--grade makes no runs: it takes no {action.option_strings[0]}")
+
+
 def main(given):
-    options = words().parse_args(given)
+    parser = words()
+    options = parser.parse_args(given)
     if options.grade is not None and len(options.tests) != 1:
         raise Bad("--grade takes one test")
+    if options.grade is not None:
+        refuse_runs(parser, options)
     for path in options.tests:
         ends, is_right = Ends(path, options.states), True
         lines = [ends.first_line(), *ends.warnings()]

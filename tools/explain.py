@@ -238,9 +238,10 @@ def fault_of(*words):
 def explained(paths, opening=None, complete=False):
     """The lines that explain the files, and whether something is wrong."""
     texts = [text_of(path) for path in paths]
+    words = text_of(opening) if opening else b""
     fault = opening and fault_of("check", *named(opening), "/dev/null", "/dev/null")
     if fault:
-        return explained_text(opening, text_of(opening), fault, "opening"), True
+        return explained_text(opening, words, fault, "opening"), True
     is_test = len(paths) == 1 and (paths[0].endswith(".litmus") or b"{" in texts[0] and not paths[0].endswith(".trace"))
     fault = fault_of(*(["litmus", "--limit", "1", paths[0]] if is_test else ["check", paths[0], "/dev/null"]))
     if fault:

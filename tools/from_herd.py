@@ -201,7 +201,7 @@ class Column:
 
     def is_spoiled(self, code):
         """Whether an instruction uses what an earlier obstacle spoiled, so that it can't be judged."""
-        name, *words = re.findall(r"[\w.]+", code)
+        name, *words = re.findall(r"[\w.]+", code) or [""]
         is_store = name[:2] in ("sw", "sd")
         used = {REGISTERS.get(word) for word in (words if is_store else words[1:])}
         target = {REGISTERS[word] for word in words[:1] if word in REGISTERS and not is_store}
@@ -480,9 +480,19 @@ def observation(path):
     return f"Observation {name} {often} {held} {all_done - held}"
 
 
+def put(lines, folder, path, sources, written):
+    """Writes a test as a file of its name. It replaces no test that is converted, and none that was just written."""
+    file = Path(folder, f"{lines[0].split()[1]}.litmus")
+    if file.resolve() in sources:
+        fail(f"{path}: {file} is a test that is converted: name another folder")
+    if written.setdefault(file, path) != path:
+        fail(f"{path}: {file} has the test of {written[file]}, by the same name")
+    file.write_text("\n".join(lines) + "\n", encoding="ascii")
+
+
 def convert(paths, folder):
     """Prints one test, or writes each into a folder; the status."""
-    status = 0
+    status, sources, written = 0, {Path(path).resolve() for path in paths}, {}
     for path in paths:
         lines, obstacles = converted(path)
         for line, what in obstacles:
@@ -491,7 +501,7 @@ def convert(paths, folder):
         if lines and folder is None:
             print("\n".join(lines))
         elif lines:
-            Path(folder, f"{lines[0].split()[1]}.litmus").write_text("\n".join(lines) + "\n", encoding="ascii")
+            put(lines, folder, path, sources, written)
     return status
 
 

@@ -82,6 +82,12 @@ def of_condition(text, line):
         return "Registers are x0 to x31."
     if re.search(r"=\s*-", line):
         return "No number is negative."
+    if re.search(r"=\s*\d+\s*[,;&|]", line):
+        return "Atoms are joined by `/\\` and `\\/` alone."
+    if re.search(r"\bx\d+\s*=", re.sub(r"\d\s*:\s*x\d+", "", line)):
+        return "A register has its thread in front, as `0:x7`."
+    if re.search(r":\s*x0\s*=", line):
+        return "x0 is always 0, and no condition names it."
     return "A parenthesis too many, or one that is missing." if line.count("(") != line.count(")") else None
 
 
@@ -141,13 +147,12 @@ def of_names(test):
                 yield f"{name} in the condition: no instruction {what} it, so it is always {value}"
 
 
-def of_registers(test, text):
+def of_registers(test):
     """Address registers that no instruction uses, and registers that are stored and that nothing sets."""
-    rows = text.split("}", 1)[1].split("\n")
+    rows = test.table.split("\n")
     columns = [" ".join(cells[at] for cells in (row.split("|") for row in rows) if at < len(cells))
                for at in range(len(test.threads))]
-    block = text.split("{", 1)[1].split("}")[0]
-    for thread, register, value in re.findall(r"(\d+)\s*:\s*(x\d+)\s*=\s*([A-Za-z_]\w*)", block):
+    for thread, register, value in re.findall(r"(\d+)\s*:\s*(x\d+)\s*=\s*([A-Za-z_]\w*)", test.opening):
         if not re.search(rf"\(\s*{register}\s*\)", columns[int(thread)]):
             yield f"{thread}:{register}={value}: no instruction of P{thread} uses that address"
     for thread, column in enumerate(test.threads):
@@ -162,4 +167,4 @@ def of_registers(test, text):
 def warnings(text):
     """What of a test that is read can't be meant, a line for each."""
     test = Test(text)
-    return [*of_names(test), *of_registers(test, text)]
+    return [*of_names(test), *of_registers(test)]

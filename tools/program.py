@@ -7,9 +7,13 @@ import os
 import re
 import subprocess
 import sys
+from functools import lru_cache
 from pathlib import Path
 
 TOP = Path(__file__).resolve().parent.parent
+sys.path.insert(0, str(TOP))
+from reference.given import KEPT, Bad, contents  # noqa: E402
+
 BUILT = TOP / "crates/tardis/out/tardis"
 UNPROVED = "checked by reference/oracle.py (not proved: ./tardis isn't built)"
 
@@ -41,14 +45,27 @@ def number(least, greatest):
 def run(*words):
     """What the program prints with these words. If that is nothing, or not all, `Refused` has the reason."""
     try:
-        ran = subprocess.run([program(), *map(str, words)], capture_output=True, encoding="utf-8", errors="replace",
-                             stdin=subprocess.DEVNULL)
+        ran = subprocess.run([program(), *(opened(str(word)) for word in words)], capture_output=True,
+                             encoding="utf-8", errors="replace", stdin=subprocess.DEVNULL)
     except OSError as error:
         fail(f"{program()}: {error.strerror}")
     if ran.returncode not in (0, 1) or ran.returncode and not ran.stdout:
         said = ran.stderr.strip().split("\n")[0].removeprefix("tardis: ").removeprefix("oracle.py: ")
         raise Refused(said or f"{program()} ended with status {ran.returncode}")
     return ran.stdout
+
+
+def opened(word):
+    """A word as the program gets it: in place of a pipe that was read, a file that has what came."""
+    return copied(word) if word in KEPT else word
+
+
+@lru_cache(maxsize=None)
+def copied(path):
+    file = os.memfd_create("kept")
+    with open(file, "wb", closefd=False) as copy:
+        copy.write(KEPT[path])
+    return f"/proc/{os.getpid()}/fd/{file}"
 
 
 class Refused(Exception):
@@ -58,6 +75,6 @@ class Refused(Exception):
 def text_of(path):
     """The bytes of a file."""
     try:
-        return Path(path).read_bytes()
-    except OSError as error:
-        fail(f"{path}: {error.strerror}")
+        return contents(path)
+    except Bad as cause:
+        fail(cause)

@@ -7,12 +7,14 @@ WORD is an address, or a location of a litmus test. A row for each event of its 
 turn, the event, and what there is after it. A core has its time and its copy, a bank its entry: S is Shared and E is
 Exclusive, then come the version and the end of the lease (wts..rts), then the word's value. A load that reads the past,
 a stale hit, is marked by `<- the past`.
+
+If the run isn't all done, its beginning is shown, standard error says how it ended, and the status is 1.
 """
 import sys
 from pathlib import Path
 
 sys.path.insert(0, str(Path(__file__).resolve().parent.parent))
-from reference.given import Subject, Words, tool  # noqa: E402
+from reference.given import Subject, Words, status_of, tool  # noqa: E402
 from reference.order import overwriting  # noqa: E402
 from reference.schedules import Run  # noqa: E402
 
@@ -96,10 +98,10 @@ def main(given):
     options = words.parse_args(given)
     subject = Subject(options.FILE)
     Steps.word, Steps.rows, Steps.shown = subject.word(options.WORD), [], subject.chosen(options)
-    subject.run(options, Steps)
+    _, end = subject.run(options, Steps)
     head = ["turn", "event", *(f"core {number}" for number in Steps.shown), "bank"]
     sys.stdout.write(table([head, *Steps.rows]))
-    return 0
+    return status_of(options.FILE, end)
 
 
 if __name__ == "__main__":

@@ -208,6 +208,9 @@ class Sweep:
 
     def __init__(self, options):
         self.traces, self.counts = traces_of(options), options.counts
+        for trace in filter(os.path.exists, self.traces):
+            if Path(trace).is_fifo():  # it can be read only once, and several runs want it
+                contents(trace)
         self.by_program = options.counts and options.program
         self.points = {name: getattr(options, name) for name in ("every", "skip") if getattr(options, name)}
         self.columns = ["trace", *["name"] * bool(options.named), *OPTIONS, *self.points,

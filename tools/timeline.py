@@ -7,12 +7,14 @@
 A load is a ring, a store a square, a swap a diamond. A stale hit is crossed out in red: a load of a value that was
 overwritten by a smaller completion number at a greater time. Points to the right and below others read the past. Below
 thirty points each has its word, with the value that it received (x 0) or that it wrote (x := 7).
+
+If the run isn't all done, its beginning is shown, standard error says how it ended, and the status is 1.
 """
 import sys
 from pathlib import Path
 
 sys.path.insert(0, str(Path(__file__).resolve().parent.parent))
-from reference.given import Bad, Subject, Words, records_of, tool  # noqa: E402
+from reference.given import Bad, Subject, Words, records_of, status_of, tool  # noqa: E402
 from reference.order import stale_loads  # noqa: E402
 from tools.drawn import Labels, halo, text  # noqa: E402
 
@@ -144,15 +146,16 @@ def main(given):
     words = Words(__doc__)
     words.run_options()
     options = words.parse_args(given)
-    records, name = records_of(options.FILE), address
+    records, name, end = records_of(options.FILE), address, "all-done"
     if records is None:
         subject = Subject(options.FILE)
-        records, name = subject.run(options)[0].machine.records, subject.name
+        run, end = subject.run(options)
+        records, name = run.machine.records, subject.name
     shown = [record for record in records if options.cores is None or record.core in options.cores]
     if not shown:
         raise Bad(f"{options.FILE}: no operation of these cores is completed")
     sys.stdout.write(picture(shown, name))
-    return 0
+    return status_of(options.FILE, end)
 
 
 if __name__ == "__main__":

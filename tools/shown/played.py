@@ -48,7 +48,8 @@ class Player:
             said = "".join(f": {line}" for line in lines[:1])
             raise Bad(f"the player failed, with status {ran.returncode}{said} (--player reference/play.py needs no kit)")
         for call, line in zip(calls, lines):
-            assert line.startswith(f"{call} : "), line
+            if not line.startswith(f"{call} : "):
+                raise Bad(f"{self.command[0]} doesn't play texts of events: it answers `{line[:80]}` to `{call[:80]}`")
         return [line[len(call) + 3:] for call, line in zip(calls, lines)]
 
 
@@ -163,6 +164,8 @@ class Played:
 def machine_call(options, cores, memory):
     """The line that opens the machine of the options, with `cores` cores and this memory."""
     named = [("cores", cores)] + [(name, getattr(options, name.replace("-", "_"))) for name in NUMBERS]
+    if not all(0 <= value < 2 ** 64 for _, value in named):
+        raise Bad(bad_configuration(options))
     words = [f"{name} {value}" for name, value in named if name not in ("seed", "limit")]
     words += ["private-write yes"] * options.private_write
     opening = [f"{8 * word:#x} {value}" for word, value in memory.items() if value]
@@ -206,8 +209,13 @@ def player_name(command):
 
 def player_of(options):
     """The command of the player, and how the page names it."""
-    if options.player:
-        command = shlex.split(options.player)
+    if options.player is not None:
+        try:
+            command = shlex.split(options.player)
+        except ValueError as cause:
+            raise Bad(f"--player {options.player}: {cause}") from None
+        if not command:
+            raise Bad("--player: a command is wanted")
         return command, player_name(command)
     if PLAY.exists() and subprocess.run(["sh", "-c", IS_BUILT, "sh", TOP], check=False).returncode == 0:
         return [str(PLAY)], "the proved machine"

@@ -1,6 +1,5 @@
 """What a litmus test asks, which registers its operations fill, and what the end of a run answers."""
 import re
-from pathlib import Path
 
 
 def question(run):
@@ -8,12 +7,10 @@ def question(run):
     test = run.subject.test
     if test is None:
         return None
-    text = Path(run.subject.path).read_text(encoding="ascii")
-    asked = re.search(r'(?m)^[ \t]*"([^"]*)"', text.partition("{")[0])
-    condition = re.search(r"(?ms)^[ \t]*((?:~?exists|forall)\b.*)", text.partition("}")[2])[1]
+    asked = re.search(r'(?m)^[ \t\r]*"([^"]*)"', test.header)
     registers = [[None if kind == "store" else target for kind, target, *_ in column if kind not in ("set", "fence")]
                  for column in test.threads]
-    return {"asked": asked and asked[1], "condition": " ".join(condition.split()), "registers": registers,
+    return {"asked": asked and asked[1], "condition": test.question, "registers": registers,
             "answer": answer(run, test) if run.end == "all-done" else None}
 
 

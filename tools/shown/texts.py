@@ -7,7 +7,7 @@ from types import SimpleNamespace
 
 from reference import order
 from reference.calls import EVENTS, OPTIONS, event_of
-from reference.given import Bad
+from reference.given import Bad, contents
 from reference.machine_texts import MachinePlayer
 from reference.schedules import ADVANCE
 from reference.texts import examples_of
@@ -17,10 +17,7 @@ from tools.shown.played import MOST_EVENTS, Played
 
 def is_text(path):
     """Whether a file has a text of events: its first line with words begins an example."""
-    try:
-        lines = Path(path).read_bytes().split(b"\n")
-    except OSError:
-        return False
+    lines = contents(path).split(b"\n")
     first = next((line.split() for line in lines if line.split() and not line.lstrip().startswith(b"#")), [])
     return first[:1] == [b"example"]
 
@@ -32,7 +29,7 @@ class Text:
     test = None
 
     def __init__(self, path):
-        text = Path(path).read_text(encoding="utf-8", errors="replace")
+        text = contents(path).decode("utf-8", "replace").replace("\r\n", "\n")
         example = examples_of(text, {"machine": MachinePlayer})[0]
         if example.fault:
             raise Bad("{}:{}: {}".format(path, *example.fault))
@@ -85,8 +82,10 @@ class PlayedText(Played):
                 programs[core].append(of[0] if name == "Issue" else ADVANCE)
         total = sum(map(len, programs))
         asked = ["arranged", "stale", "check", *(f"record {number}" for number in range(total))]
-        answers = self.player.ask([self.machine, *self.events, *asked])[1 + len(self.events):]
-        arranged, stale, self.verdict, *records = answers
+        answers = self.player.ask([self.machine, *self.events, *asked])
+        if answers[0] != "opened":
+            raise Bad(f"{self.text.path}: `{self.machine}` is {answers[0]}")
+        arranged, stale, self.verdict, *records = answers[1 + len(self.events):]
         self.records = read_records("".join(f"{one}\n" for one in records if one != "none").encode())
         self.arranged = [] if arranged == "none" else list(map(int, arranged.split(" ")))
         self.stale = order.stale_loads(self.records)

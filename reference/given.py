@@ -5,6 +5,7 @@ A tool's `--help` is its own docstring and its options. It reports a bad text or
 import argparse
 import errno
 import os
+import re
 import sys
 from pathlib import Path
 
@@ -72,8 +73,10 @@ def cores_named(text):
     """The cores of a list such as 0,2-4."""
     cores = set()
     for part in text.split(","):
-        first, _, last = part.partition("-")
-        cores.update(range(int(first), int(last or first) + 1))
+        ends = re.fullmatch("([0-9]{1,2})(?:-([0-9]{1,2}))?", part)
+        if not ends or int(ends[2] or ends[1]) < int(ends[1]):
+            raise argparse.ArgumentTypeError(f"{part or 'nothing'} is no core, and no range such as 0-3")
+        cores.update(range(int(ends[1]), int(ends[2] or ends[1]) + 1))
     return cores
 
 

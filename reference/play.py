@@ -53,7 +53,8 @@ def played(name, text):
 
 
 def text_of(name):
-    return (sys.stdin.buffer.read() if name == "-" else Path(name).read_bytes()).decode()
+    """The text of a file, or of standard input. A carriage return in front of a line feed is no part of the line."""
+    return (sys.stdin.buffer.read() if name == "-" else Path(name).read_bytes()).decode().replace("\r\n", "\n")
 
 
 def tell(name, is_print):

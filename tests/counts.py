@@ -292,6 +292,9 @@ def refusals(tester):
     tester.refused("none.trace: No such file or directory", *played, "none.trace")
     tester.refused("bad configuration", *played, "--line-words", "3", str(trace))
     tester.refused("has the cores 0 to 0", *played, "--cores", "1", str(trace))
+    for wrong in ("1-0", "x", "0-", "0-99999999999"):
+        tester.refused(f"--cores: {wrong} is no core, and no range such as 0-3", *played, "--cores", wrong, str(trace))
+    tester.refused("--cores: nothing is no core", *played, "--cores", "0,", str(trace))
     tester.refused("the player failed, with status 3", *played, "--limit", "-1", str(trace))
     tester.refused("no-player: No such file or directory", "--player", "no-player", str(trace))
     tester.refused("the player failed, with status 1", "--player", "false", str(trace))

@@ -228,6 +228,10 @@ def troubles():
     if told != f"Machine has no option 'core': it takes cores, memory, {OF_MACHINES}":
         fail(f"an option that there isn't: {told}")
     refuses(ValueError, lambda: tardis.Machine(memory={4: 1}), "an address of no word")
+    for make in (tardis.History, lambda opening: tardis.Machine(memory=opening)):
+        told = str(refuses(TypeError, lambda: make([8]), "an opening without addresses"))
+        if told != "opening is [8]: values by byte address are wanted":
+            fail(f"an opening without addresses: {told}")
     closed = tardis.Machine()
     for named, make in (("core", lambda: closed.load(1_048_576, 8)), ("address", lambda: closed.load(0, 4)),
                         ("value", lambda: closed.store(0, 8, 2 ** 64)), ("core", lambda: closed.attempt(2 ** 32)),
@@ -620,6 +624,9 @@ def counted():
     wanted = {"core": [0, 1], "loads": [1, 0], "ShReq": [1, 0]}
     if (columns(), columns("banks")) != (wanted, {"bank": [0], "held": [2]}):
         fail(f"counts by columns: {columns()}, {columns('banks')}")
+    told = str(refuses(ValueError, lambda: columns("bank"), "a part of the counts that there isn't"))
+    if told != "part is 'bank': it is cores or banks":
+        fail(f"a part of the counts that there isn't: {told}")
     report = tardis.trace("0 R 0x0\n0 R 0x0\n0 R 0x8\n", counts=True, every=2)
     if list(report.rows) != [2] or report.rows[2].cores[0]["loads"] != 2 or report.counts.cores[0]["loads"] != 3:
         fail(f"rows: {report.rows}, {report.counts}")

@@ -490,8 +490,23 @@ def refuse(options, columns):
         raise Bad("--every and --skip need --counts and --program")
     if options.program and options.player:
         raise Bad("--program and --player: one of them counts")
+    if options.player and not options.counts:
+        raise Bad("--player needs --counts")
     refuse_columns(options, columns)
     wanted(dict.fromkeys(columns, ""), options)
+    refuse_pictures(options)
+
+
+def refuse_pictures(options):
+    """What is said of a picture or a short table that isn't asked for would mean nothing."""
+    for name in ("svg", "log", "panel"):
+        if getattr(options, name) and not options.plot:
+            raise Bad(f"--{name} needs --plot")
+    if options.where and not (options.plot or options.short):
+        raise Bad("--where needs --plot or --short")
+    for said in options.where:
+        if "=" not in said:
+            raise Bad(f"--where {said}: COLUMN=LIST is wanted")
 
 
 def refuse_columns(options, columns):

@@ -93,6 +93,8 @@ class History:
         """`opening` has the values that words open with, by byte address; all others open with 0."""
         self._opening, self._operations, self._records = bytearray(), bytearray(), bytearray()
         self._issued: dict[int, int] = {}
+        if not isinstance(opening, Mapping | None):
+            raise TypeError(f"opening is {opening!r}: values by byte address are wanted")
         for address, value in (opening or {}).items():
             self.open(address, value)
 

@@ -262,7 +262,18 @@ def main(given):
     except Bad as cause:
         print(f"oracle.py: {cause}", file=sys.stderr)
         return 2
-    sys.stdout.write(text)
+    return written(text, status)
+
+
+def written(text, status):
+    """Writes a whole text: the status, or that of a write that failed, in the program's words."""
+    try:
+        sys.stdout.write(text)
+        sys.stdout.flush()
+    except (OSError, AttributeError):  # without a standard output Python has none to write to
+        sys.stdout = None
+        print("tardis: write failed", file=sys.stderr)
+        return 4
     return status
 
 

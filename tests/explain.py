@@ -159,7 +159,8 @@ NO_RUNS = [("check none b", "none: No such file or directory"), ("trace none", "
            ("ends --lease=3 none", "--lease is an option of litmus and trace, and not of ends"),
            ("litmus --leese 3 none", "no command has the option --leese"),
            ("trace --lease 3 --fair --lease=3 none", "--lease is given more than once"),
-           ("trace --fair --fair none", "--fair is given more than once"), ("trace -- --lease", "--lease: No such file"),
+           ("trace --fair --fair none", "--fair is given more than once"),
+           ("trace -- --lease", "--lease: No such file"),
            ("", "required: command"), ("run none", "'run'"), ("trace", "required: FILE"), ("trace none two", ": two"),
            ("trace --schedule draw none", "'draw'"), ("trace none --lease", "--lease: expected one argument"),
            ("trace --limit 0 examples/traces/PAST.trace", "'--limit <limit>': 0 is not in 1..=4294967295")]

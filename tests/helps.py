@@ -42,6 +42,9 @@ PIPED = ["tools/explore.py examples/litmus/SB.litmus", "tools/mesi.py",
          "examples/exercises/history.records"]
 
 
+LOG = "yes '1 core 0 load 0x0 got 0' | head -n 100000 | examples/embed/from_log.py -"
+
+
 def files():
     """What there is, with the time of its last change, but for what builds and imports write."""
     return {path: path.stat().st_mtime_ns for folder in (*FOLDERS, "examples", "docs", "crates/play_events/data")
@@ -54,10 +57,24 @@ def ran(words):
 
 def pipes():
     """What tools say to a reader that goes away: nothing."""
-    for words in PIPED:
+    for words in [*PIPED, LOG]:
         told = ran(["sh", "-c", f"{words} | head -n 1"])
         if told.stderr or told.stdout.count("\n") != 1:
             yield f"{words} | head -n 1: {told.stdout!r}, {told.stderr[-160:]!r}"
+
+
+def unwritten():
+    """What tools say of a device that takes no bytes: one line. The second program has the program's status and words.
+    """
+    for words in [*PIPED, "env TARDIS=reference/oracle.py tools/seeds.py --jobs 1 0 9 examples/litmus/SB.litmus"]:
+        told = ran(["sh", "-c", f"{words} >/dev/full"])
+        if told.returncode != 2 or not told.stderr.endswith(": standard output: No space left on device\n") or \
+                told.stderr.count("\n") != 1:
+            yield f"{words} >/dev/full: status {told.returncode}, {told.stderr[-160:]!r}"
+    for words in (">/dev/full", ">&-"):
+        told = ran(["sh", "-c", f"reference/oracle.py trace examples/traces/PAST.trace {words}"])
+        if (told.returncode, told.stderr) != (4, "tardis: write failed\n"):
+            yield f"oracle.py {words}: status {told.returncode}, {told.stderr[-160:]!r}"
 
 
 def defaults():
@@ -162,10 +179,11 @@ def main():
         if got.returncode != wanted or got.stdout or got.stderr.count("\n") != 1:
             wrong.append(f"{words.format(path)}: status {got.returncode}, {got.stderr[-160:]!r}")
     wrong += pipes()
+    wrong += unwritten()
     wrong += defaults()
     wrong += page_players()
     wrong += launched()
-    tried = len(tools) + 2 * len(READERS) + len(PIPED) + len(NUMBERS) + 9
+    tried = len(tools) + 2 * len(READERS) + 2 * len(PIPED) + 4 + len(NUMBERS) + 9
     print("\n".join([*wrong, f"{tried} tried, {len(wrong)} wrong"]))
     return int(bool(wrong))
 

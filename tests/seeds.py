@@ -281,6 +281,11 @@ def refusals(tester, folder):
         status, out, error = tester.run(*words)
         good = (status, out, error.count("\n")) == (2, "", 1) and said in error
         tester.expect(good, f"{words}: {status} {out!r} {error!r}, wanted {said!r}")
+    with open("/dev/full", "w", encoding="ascii") as device:
+        ran = subprocess.run([tester.program, "--jobs", "1", "0", "9", TEST], stdout=device, stderr=subprocess.PIPE,
+                             check=False)
+    wanted = 2, b"seeds.py: standard output: No space left on device\n"
+    tester.expect((ran.returncode, ran.stderr) == wanted, f"a full device: {ran}")
     tester.expect(not list(Path(folder).iterdir()), f"left: {list(Path(folder).iterdir())}")
 
 

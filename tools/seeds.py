@@ -24,7 +24,7 @@ import sys
 from pathlib import Path
 
 sys.path.insert(0, str(Path(__file__).resolve().parent.parent))
-from reference.given import Bad  # noqa: E402
+from reference.given import Bad, tool  # noqa: E402
 from tools import program  # noqa: E402
 from tools.merge import SEEDS, Report, joined  # noqa: E402
 from tools.program import BUILT, TOP, Refused, fail, text_of  # noqa: E402
@@ -145,9 +145,9 @@ def print_whole(parts):
     return int(Report(whole).number("all-done") < parts.runs)
 
 
-def main():
+def main(words_given):
     parser = words()
-    given = parser.parse_args()
+    given = parser.parse_args(words_given)
     if given.part is not None and given.parts is None:
         parser.error("--part K wants --parts N")
     refuse_own(given.options)
@@ -162,4 +162,4 @@ def main():
 
 
 if __name__ == "__main__":
-    sys.exit(main())
+    tool(main)

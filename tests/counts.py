@@ -305,7 +305,9 @@ def refusals(tester):
     tester.refused("--every and --skip need --program", "--skip", "1", str(trace))
     tester.refused("--program and --player: one of them counts", *played, *counting, str(trace))
     tester.refused("SB.litmus is a litmus test: a player counts it", *counting, "examples/litmus/SB.litmus")
-    tester.refused("line 2: 4 BadCore", *counting, str(bad))
+    tester.refused("bad.trace: line 2: 4 BadCore", *counting, str(bad))
+    tester.refused("--columns and --cores: columns have numbers of the whole run", *counting, "--columns", "hits",
+                   "--cores", "0", str(trace))
     tester.refused("none.trace: No such file or directory", *counting, "none.trace")
     tester.refused("bad configuration: --line-words 3: 1 or 8", *counting, "--line-words", "3", str(trace))
     tester.refused("has the cores 0 to 0", *counting, "--cores", "1", str(trace))

@@ -176,6 +176,7 @@ REFUSED = [("trace --lease 0 examples/traces/PAST.trace", ["bad configuration: -
                "examples/traces/PAST.trace, line 4, `1 R 0x0`, CORE: `1`\n",
                "  4 BadCore: the machine's greatest core is 0 (--cores 1)\n",
                "  often meant: --cores is the greatest core of the trace plus 1."]),
+           ("trace --stream --lease 0 examples/litmus/SB.litmus", ["bad configuration: --lease 0: 1 to 4294967296"]),
            ("ends --json examples/traces/PAST.trace", ["4 BadHeader", "It is a trace, and no litmus test"]),
            ("check --json examples/traces/PAST.trace examples/traces/SWAP-LOCK.records", ["out of program order"]),
            ("check examples/traces/PAST.trace examples/traces/SWAP-LOCK.records", ["out of program order"])]

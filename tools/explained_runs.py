@@ -264,6 +264,8 @@ def explained_run(words):
         if getattr(options, "schedule", None) == "threads":
             fail("runs by threads can't be made again: docs/SCHEDULES.md (Threads) says what to try at their limit")
         text = text_of(options.FILE)
+        if getattr(options, "stream", False) and not has_machine(options, options.cores or CORES):
+            return bad_configuration(options).split("; "), True  # before anything of the text is read
         subject = subject_of(options, text)
     except NoSuchCore as at:
         return list(without_core(options, text, at.line)), True

@@ -218,6 +218,24 @@ def on_alarm(*_):
     raise InterruptedError("an alarm")
 
 
+def wrong_kinds():
+    """Arguments of wrong kinds, which the error names, by hand."""
+    wrong = {"record is 3: a tardis.Record is wanted": lambda: tardis.History().add(3),
+             "record is (0, 0, 'R', 8): a tardis.Record is wanted": lambda: tardis.History().add((0, 0, "R", 8)),
+             "complete is 'no': True or False is wanted": lambda: tardis.check("", "", complete="no"),
+             "json is 1: True or False is wanted": lambda: tardis.check("", "", json=1),
+             "address is 8.0: a whole number is wanted": lambda: tardis.check("", "", opening={8.0: 1}),
+             "value is '5': a whole number is wanted": lambda: tardis.check("", "", opening={8: "5"})}
+    for wanted, make in wrong.items():
+        told = str(refuses(TypeError, make, wanted))
+        if told != wanted:
+            fail(f"{told}, wanted {wanted}")
+    for make in (tardis.History, lambda opening: tardis.Machine(memory=opening)):
+        told = str(refuses(TypeError, lambda: make([8]), "an opening without addresses"))
+        if told != "opening is [8]: values by byte address are wanted":
+            fail(f"an opening without addresses: {told}")
+
+
 def troubles():
     """Machines that are closed, and what is left open; options that a machine doesn't have, and values
     of wrong types or out of their ranges, each of which the error names."""
@@ -228,10 +246,6 @@ def troubles():
     if told != f"Machine has no option 'core': it takes cores, memory, {OF_MACHINES}":
         fail(f"an option that there isn't: {told}")
     refuses(ValueError, lambda: tardis.Machine(memory={4: 1}), "an address of no word")
-    for make in (tardis.History, lambda opening: tardis.Machine(memory=opening)):
-        told = str(refuses(TypeError, lambda: make([8]), "an opening without addresses"))
-        if told != "opening is [8]: values by byte address are wanted":
-            fail(f"an opening without addresses: {told}")
     closed = tardis.Machine()
     for named, make in (("core", lambda: closed.load(1_048_576, 8)), ("address", lambda: closed.load(0, 4)),
                         ("value", lambda: closed.store(0, 8, 2 ** 64)), ("core", lambda: closed.attempt(2 ** 32)),
@@ -907,6 +921,7 @@ def machines(is_proved):
     asked()
     many()
     troubles()
+    wrong_kinds()
     return latency()
 
 

@@ -94,7 +94,7 @@ def main(words):
         return play_live(*words[1:])
     is_print = "--print" in words
     files = [word for word in words if word not in ("--print", "--again")]
-    if any(word.startswith("--") for word in files) or is_print and len(files) != 1:
+    if any(word.startswith("--") for word in files):
         print("play.py: bad command line", file=sys.stderr)
         return BAD_TEXT
     sys.stdout.reconfigure(errors="surrogateescape")

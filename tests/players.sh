@@ -48,6 +48,7 @@ printf 'example lines\r\nmachine : opened\r\nadvance 0 : advanced # a\r\n\r\ntim
 for player in "$events" reference/play.py; do
     said returns "$player" - <"$work/returns"
     said returns-printed "$player" --print "$work/returns"
+    said returns-printed "$player" --print <"$work/returns"
 done
 
 # encoded LINES PLAYER WORDS..: the player writes these lines, then that a text isn't UTF-8, and ends with status 4.

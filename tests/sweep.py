@@ -205,6 +205,11 @@ def shown(tester):
         tester.refused(f"{name} needs --plot", name, value, "alone.trace")
     tester.refused("--where needs --plot or --short", "--where", "lease=1", "alone.trace")
     tester.refused("--where lease: COLUMN=LIST is wanted", "--where", "lease", "--short", "s.csv", "alone.trace")
+    for words in (("--csv", "alone.trace"), ("--short", "./alone.trace"), ("--named", "n", "--csv", "n"),
+                  ("--plot", "lease:renewals", "--svg", "alone.trace"), ("--csv", "a.csv", "--short", "./a.csv"),
+                  ("--csv", "a.svg", "--plot", "lease:renewals")):
+        tester.refused("would be overwritten", *words, "alone.trace")
+    tester.expect(Path("alone.trace").read_text() == ALONE, "the trace is overwritten")
     tester.refused("--player needs --counts", "--player", tester.player, "alone.trace")
     tester.refused("no row is left to be drawn", "--csv", "all.csv", "--where", "lease=7", "--plot", "lease:renewals",
                    "--lease", "1", "--counts", "--player", tester.player, "alone.trace")

@@ -90,6 +90,8 @@ def main(given):
     options = parser().parse_args(given)
     if options.svg and not options.plot:
         raise Bad("--svg needs --plot")
+    picture_file = (options.svg or "compare.svg") if options.plot else None
+    sweep.refuse_overwriting([path for path in (options.csv, picture_file) if path not in (None, "-")], options.TRACE)
     columns = ["trace", "name", *sweep.OPTIONS, *ROWS]
     axes = sweep.axes(options, columns) if options.plot else None
     names, rows = measured.varied(sweep.combinations(options)), []
@@ -102,7 +104,7 @@ def main(given):
         table = [columns, *([row[name] for name in columns] for row in rows)]
         save(options.csv, "".join(map(sweep.line_of, table)))
     if axes:
-        save(options.svg or "compare.svg", "\n".join(picture({"": sweep.series(rows, *axes)}, *axes)) + "\n")
+        save(picture_file, "\n".join(picture({"": sweep.series(rows, *axes)}, *axes)) + "\n")
     return int(any(map(sweep.is_cut, rows)))
 
 

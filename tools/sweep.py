@@ -495,6 +495,19 @@ def refuse(options, columns):
     refuse_columns(options, columns)
     wanted(dict.fromkeys(columns, ""), options)
     refuse_pictures(options)
+    table = table_of(options, options.part)
+    picture_file = (options.svg or Path(table).with_suffix(".svg")) if options.plot else None
+    refuse_overwriting(filter(None, (table, picture_file, options.short)),
+                       filter(None, (*options.TRACE, options.named)))
+
+
+def refuse_overwriting(written, read):
+    """Of the files that are written, none is read, or written twice. What is no file, as /dev/null, doesn't count."""
+    taken = {Path(path).resolve() for path in read}
+    for path in map(Path, written):
+        if path.resolve() in taken and (path.is_file() or not path.exists()):
+            raise Bad(f"{path} would be overwritten")
+        taken.add(path.resolve())
 
 
 def refuse_pictures(options):

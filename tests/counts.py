@@ -292,9 +292,6 @@ def refusals(tester):
     tester.refused("none.trace: No such file or directory", *played, "none.trace")
     tester.refused("bad configuration", *played, "--line-words", "3", str(trace))
     tester.refused("has the cores 0 to 0", *played, "--cores", "1", str(trace))
-    for wrong in ("1-0", "x", "0-", "0-99999999999"):
-        tester.refused(f"--cores: {wrong} is no core, and no range such as 0-3", *played, "--cores", wrong, str(trace))
-    tester.refused("--cores: nothing is no core", *played, "--cores", "0,", str(trace))
     tester.refused("the player failed, with status 3", *played, "--limit", "-1", str(trace))
     tester.refused("no-player: No such file or directory", "--player", "no-player", str(trace))
     tester.refused("the player failed, with status 1", "--player", "false", str(trace))
@@ -320,6 +317,11 @@ def refusals(tester):
                        str(trace))
     tester.refused("--columns turns: there are events, held, dropped, loads,", *counting, "--columns", "hits,turns",
                    str(trace))
+
+
+def shown_cores(tester):
+    """Columns of the cores that are named alone."""
+    played = ["--player", tester.player]
     _, out, _ = tester.run(*played, "--cores", "1", str(tester.file("0 R 0x0\n1 R 0x8\n")))
     heads = [line.split()[1:] for line in out.splitlines() if line.split()[:1] in (["cores"], ["banks"], ["messages"])]
     wanted = [["all", "core", "1"], ["all", "bank", "0"], ["all", "core", "1", "bank", "0"]]
@@ -328,6 +330,9 @@ def refusals(tester):
     _, out, _ = tester.run(*played, "--cores", "0,2-3", str(five))
     named = out.split("\n\n")[1].split()[2:8]
     tester.expect(named == ["core", "0", "core", "2", "core", "3"], f"--cores 0,2-3: {out}")
+    for wrong in ("1-0", "x", "0-", "0-99999999999"):
+        tester.refused(f"--cores: {wrong} is no core, and no range such as 0-3", *played, "--cores", wrong, str(five))
+    tester.refused("--cores: nothing is no core", *played, "--cores", "0,", str(five))
 
 
 def main(player, program=str(TOP / "reference/oracle.py")):
@@ -335,7 +340,7 @@ def main(player, program=str(TOP / "reference/oracle.py")):
     os.chdir(TOP)
     with tempfile.TemporaryDirectory() as folder:
         tester = Counter(player, program, folder)
-        for part in (by_hand, by_program, points, at_random, quick_reading, refusals):
+        for part in (by_hand, by_program, points, at_random, quick_reading, refusals, shown_cores):
             part(tester)
     print(f"{tester.tried} tried, {tester.wrong} wrong")
     return int(tester.wrong > 0)

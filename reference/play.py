@@ -53,7 +53,8 @@ def played(name, text):
 
 
 def text_of(name):
-    return (sys.stdin.buffer.read() if name == "-" else Path(name).read_bytes()).decode()
+    """The text of a file, or of standard input. A carriage return in front of a line feed is no part of the line."""
+    return (sys.stdin.buffer.read() if name == "-" else Path(name).read_bytes()).decode().replace("\r\n", "\n")
 
 
 def tell(name, is_print):
@@ -93,7 +94,7 @@ def main(words):
         return play_live(*words[1:])
     is_print = "--print" in words
     files = [word for word in words if word not in ("--print", "--again")]
-    if any(word.startswith("--") for word in files) or is_print and len(files) != 1:
+    if any(word.startswith("--") for word in files):
         print("play.py: bad command line", file=sys.stderr)
         return BAD_TEXT
     sys.stdout.reconfigure(errors="surrogateescape")

@@ -54,4 +54,4 @@ def printed(text, kinds):
     for number, (line, answers) in came.items():
         if not all(wanted is not None and is_answer(wanted, answer) for wanted, answer in answers):
             lines[number - 1] = with_answer(lines[number - 1], in_turns([answer for _, answer in answers]))
-    return "\n".join(lines), faults
+    return "\n".join(lines) + "\n" * (lines[-1] != ""), faults

@@ -292,7 +292,10 @@ def tables(tester):
     tester.expect((status, error, out.count("limit")) == (1, "", 3), f"cut short: {status} {out} {error}")
     for wanted, *words in (("bad configuration", "--line-words", "3"), ("no column x", "--plot", "x:flits"),
                            ("isn't a number from 1 to 1024", "--flit", "0"), ("No such file", "none.trace"),
-                           ("line 1: 4 BadCore", "bad.trace"), ("No such file", "--csv", "none/t.csv")):
+                           ("line 1: 4 BadCore", "bad.trace"), ("No such file", "--csv", "none/t.csv"),
+                           ("--svg needs --plot", "--svg", "alone.svg"),
+                           ("one.trace would be overwritten", "--csv", "one.trace"),
+                           ("one.trace would be overwritten", "--plot", "lease:hits", "--svg", "./one.trace")):
         Path("bad.trace").write_text("x\n")
         status, _, error = tester.run(*words, *["one.trace"] * (not words[0].endswith(".trace")))
         tester.expect(status == 2 and wanted in error and error.count("\n") == 1, f"{words}: {status} {error}")

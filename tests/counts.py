@@ -302,7 +302,9 @@ def refusals(tester):
     tester.refused("--every and --skip need --program", "--skip", "1", str(trace))
     tester.refused("--program and --player: one of them counts", *played, *counting, str(trace))
     tester.refused("SB.litmus is a litmus test: a player counts it", *counting, "examples/litmus/SB.litmus")
-    tester.refused("line 2: 4 BadCore", *counting, str(bad))
+    tester.refused("bad.trace: line 2: 4 BadCore", *counting, str(bad))
+    tester.refused("--columns and --cores: columns have numbers of the whole run", *counting, "--columns", "hits",
+                   "--cores", "0", str(trace))
     tester.refused("none.trace: No such file or directory", *counting, "none.trace")
     tester.refused("bad configuration: --line-words 3: 1 or 8", *counting, "--line-words", "3", str(trace))
     tester.refused("has the cores 0 to 0", *counting, "--cores", "1", str(trace))
@@ -315,6 +317,11 @@ def refusals(tester):
                        str(trace))
     tester.refused("--columns turns: there are events, held, dropped, loads,", *counting, "--columns", "hits,turns",
                    str(trace))
+
+
+def shown_cores(tester):
+    """Columns of the cores that are named alone."""
+    played = ["--player", tester.player]
     _, out, _ = tester.run(*played, "--cores", "1", str(tester.file("0 R 0x0\n1 R 0x8\n")))
     heads = [line.split()[1:] for line in out.splitlines() if line.split()[:1] in (["cores"], ["banks"], ["messages"])]
     wanted = [["all", "core", "1"], ["all", "bank", "0"], ["all", "core", "1", "bank", "0"]]
@@ -323,6 +330,8 @@ def refusals(tester):
     _, out, _ = tester.run(*played, "--cores", "0,2-3", str(five))
     named = out.split("\n\n")[1].split()[2:8]
     tester.expect(named == ["core", "0", "core", "2", "core", "3"], f"--cores 0,2-3: {out}")
+    for wrong in ("1-0", "x", "0-", "0,", "0-99999999999"):
+        tester.refused(f"--cores: {wrong} isn't a list of cores, as 0,2 or 0-3", *played, "--cores", wrong, str(five))
 
 
 def main(player, program=str(TOP / "reference/oracle.py")):
@@ -330,7 +339,7 @@ def main(player, program=str(TOP / "reference/oracle.py")):
     os.chdir(TOP)
     with tempfile.TemporaryDirectory() as folder:
         tester = Counter(player, program, folder)
-        for part in (by_hand, by_program, points, at_random, quick_reading, refusals):
+        for part in (by_hand, by_program, points, at_random, quick_reading, refusals, shown_cores):
             part(tester)
     print(f"{tester.tried} tried, {tester.wrong} wrong")
     return int(tester.wrong > 0)

@@ -16,7 +16,8 @@ from pathlib import Path
 sys.path.insert(0, str(Path(__file__).resolve().parent.parent))
 from tests.texts import TOP, Tester, of_printf, rows, unescaped  # noqa: E402
 from reference.litmus_faults import fault_of  # noqa: E402
-from tools import explain, explained_texts, litmus_hints  # noqa: E402
+from reference.traces import record_line  # noqa: E402
+from tools import explain, explained_runs, explained_texts, litmus_hints  # noqa: E402
 
 
 MP = "0 W 0x0 1\n0 W 0x8 1\n1 R 0x8\n1 R 0x0\n"
@@ -111,6 +112,8 @@ RUNS = [
         "  core 2 waits for line 0x0 of bank 0 since turn 1 (R 0x0): its request is m2",
         "Set 0 of bank 0 has places for 1 lines:", "  0x0 left it 33 times in the last 100 turns", "Remedy: --fair;"]),
     (LIVELOCK.format("--fair "), 0, ["nothing is wrong, all is done"]),
+    (LIVELOCK.format("--fair --stream --cores 3 "), 0, ["nothing is wrong, all is done"]),
+    (LIVELOCK.format("--stream "), 1, ["end limit: 1 operations of 3 issued are completed", "Cause: starvation."]),
     (LIVELOCK.format("--fair --json --counts --every 1 "), 0, ["nothing is wrong, all is done"]),
     ("litmus --seed 4 examples/litmus/SB+yes.litmus", 0, ["nothing is wrong", "--seed means nothing by rounds"]),
     # Seed 7 would take 15 turns, but a trace has one run.
@@ -155,6 +158,9 @@ NO_RUNS = [("check none b", "none: No such file or directory"), ("trace none", "
            ("trace --runs 3 none", "--runs is an option of litmus, and not of trace"),
            ("ends --lease=3 none", "--lease is an option of litmus and trace, and not of ends"),
            ("litmus --leese 3 none", "no command has the option --leese"),
+           ("trace --lease 3 --fair --lease=3 none", "--lease is given more than once"),
+           ("trace --fair --fair none", "--fair is given more than once"),
+           ("trace -- --lease", "--lease: No such file"),
            ("", "required: command"), ("run none", "'run'"), ("trace", "required: FILE"), ("trace none two", ": two"),
            ("trace --schedule draw none", "'draw'"), ("trace none --lease", "--lease: expected one argument"),
            ("trace --limit 0 examples/traces/PAST.trace", "'--limit <limit>': 0 is not in 1..=4294967295")]
@@ -166,6 +172,11 @@ REFUSED = [("trace --lease 0 examples/traces/PAST.trace", ["bad configuration: -
            ("litmus examples/traces/PAST.trace", ["4 BadHeader", "It is a trace, and no litmus test"]),
            ("ends --states 3 examples/traces/PAST.trace", ["4 BadHeader", "It is a trace, and no litmus test"]),
            ("trace examples/litmus/SB.litmus", ["4 BadCore", "It is a litmus test: `tardis litmus FILE`"]),
+           ("trace --stream --cores 1 examples/traces/PAST.trace", [
+               "examples/traces/PAST.trace, line 4, `1 R 0x0`, CORE: `1`\n",
+               "  4 BadCore: the machine's greatest core is 0 (--cores 1)\n",
+               "  often meant: --cores is the greatest core of the trace plus 1."]),
+           ("trace --stream --lease 0 examples/litmus/SB.litmus", ["bad configuration: --lease 0: 1 to 4294967296"]),
            ("ends --json examples/traces/PAST.trace", ["4 BadHeader", "It is a trace, and no litmus test"]),
            ("check --json examples/traces/PAST.trace examples/traces/SWAP-LOCK.records", ["out of program order"]),
            ("check examples/traces/PAST.trace examples/traces/SWAP-LOCK.records", ["out of program order"])]
@@ -408,6 +419,7 @@ def runs(tester):
         at = [out.find(part) for part in said]
         tester.expect((status, error) == (1, "") and -1 not in at and at == sorted(at),
                       f"{words}: {status} {out} {error}")
+    streamed(tester)
     full = tester.run("--", "trace", "examples/traces/PAST.trace")
     tester.expect(full[0] == 0, f"a run that is all done: {full}")
     tester.expect(tester.run("--", "ends", "examples/litmus/SB.litmus")[0] == 0, "a list of ends")
@@ -431,6 +443,17 @@ def piped(tester):
                                 (["/dev/stdin", str(TOP / "examples/traces/PAST.records")], texts[1], "legal\n")):
         got = tester.run(*words, text=text)
         tester.expect(got == (0, wanted, ""), f"{words} through a pipe: {got}")
+
+
+def streamed(tester):
+    """The run that is explained is the one that is made: by a seed, a stream's machine of 64 cores has another one."""
+    for cores in ([], ["--cores", "2"]):
+        words = ["trace", "--stream", *cores, "--schedule", "seed", "--seed", "2", "examples/traces/PAST.trace"]
+        options = explained_runs.options_of(words)
+        run, _ = explained_runs.run_of(explained_runs.subject_of(options, Path(words[-1]).read_bytes()), options, 0)
+        _, out, _ = Tester(os.environ["TARDIS"]).run(*words, "--records")
+        records = [record_line(record) for record in run.machine.records]
+        tester.expect(records == out.splitlines(), f"{words}: {records}, and the program has {out}")
 
 
 def others(tester):

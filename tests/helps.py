@@ -43,6 +43,9 @@ PIPED = ["tools/explore.py examples/litmus/SB.litmus", "tools/mesi.py",
          "examples/exercises/history.records"]
 
 
+LOG = "yes '1 core 0 load 0x0 got 0' | head -n 100000 | examples/embed/from_log.py -"
+
+
 def files():
     """What there is, with the time of its last change, but for what builds and imports write."""
     return {path: path.stat().st_mtime_ns for folder in (*FOLDERS, "examples", "docs", "crates/play_events/data")
@@ -55,7 +58,7 @@ def ran(words):
 
 def pipes():
     """What tools say to a reader that goes away: nothing."""
-    for words in PIPED:
+    for words in [*PIPED, LOG]:
         told = ran(["sh", "-c", f"{words} | head -n 1"])
         if told.stderr or told.stdout.count("\n") != 1:
             yield f"{words} | head -n 1: {told.stdout!r}, {told.stderr[-160:]!r}"
@@ -82,6 +85,11 @@ def unwritten():
     os.close(writer)
     if (got.returncode, got.stderr) != (4, b"tardis: write failed\n"):
         yield f"a reader that is gone: {got}"
+    for words in [*PIPED, "env TARDIS=reference/oracle.py tools/seeds.py --jobs 1 0 9 examples/litmus/SB.litmus"]:
+        got = ran(["sh", "-c", f"{words} >/dev/full"])
+        if got.returncode != 2 or not got.stderr.endswith(": standard output: No space left on device\n") or \
+                got.stderr.count("\n") != 1:
+            yield f"{words} >/dev/full: status {got.returncode}, {got.stderr[-160:]!r}"
 
 
 def defaults():
@@ -190,7 +198,7 @@ def main():
     wrong += defaults()
     wrong += page_players()
     wrong += launched()
-    tried = len(tools) + 2 * len(READERS) + len(PIPED) + len(NUMBERS) + 14
+    tried = len(tools) + 2 * len(READERS) + 2 * len(PIPED) + len(NUMBERS) + 15
     print("\n".join([*wrong, f"{tried} tried, {len(wrong)} wrong"]))
     return int(bool(wrong))
 

@@ -581,6 +581,10 @@ def examples(tester):
             tester.expect(path.read_text().partition("\n")[2] == made, f"{path.name}: tools/mesi.py makes another one")
             status, out, error = Tester(str(TOP / "tools/number.py")).run("--out", str(tester.folder), str(path))
             tester.expect(status == 1 and out.startswith("wrong value ") and error == "", f"{path.name}: {out} {error}")
+    for words, said in ((("--cores", "65"), "--cores: 65 isn't a number from 1 to 64"),
+                        (("--lost", "101"), "--lost: 101 isn't a number from 0 to 100")):
+        ran = Tester(str(TOP / "tools/mesi.py")).run(*words)
+        tester.expect(ran == (2, "", f"mesi.py: argument {said} (--help tells all)\n"), f"mesi.py: {ran}")
     for path in sorted(EXAMPLES.glob("lost*")):
         operations = read_history(path.read_bytes())
         tester.expect(facts_hold(operations, answer(operations, SECONDS).lines), f"{path.name}: facts")

@@ -43,6 +43,14 @@ said printed "$events" --print tests/players/answers.events
 said printed reference/play.py --print tests/players/answers.events
 said words "$events" --no-such-word
 
+# Lines end in a carriage return and a line feed, and the last one in neither.
+printf 'example lines\r\nmachine : opened\r\nadvance 0 : advanced # a\r\n\r\ntime 0' >"$work/returns"
+for player in "$events" reference/play.py; do
+    said returns "$player" - <"$work/returns"
+    said returns-printed "$player" --print "$work/returns"
+    said returns-printed "$player" --print <"$work/returns"
+done
+
 # encoded LINES PLAYER WORDS..: the player writes these lines, then that a text isn't UTF-8, and ends with status 4.
 encoded() {
     printf '%sstream did not contain valid UTF-8\nstatus 4\n' "${1:+$1

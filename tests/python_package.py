@@ -218,6 +218,24 @@ def on_alarm(*_):
     raise InterruptedError("an alarm")
 
 
+def wrong_kinds():
+    """Arguments of wrong kinds, which the error names, by hand."""
+    wrong = {"record is 3: a tardis.Record is wanted": lambda: tardis.History().add(3),
+             "record is (0, 0, 'R', 8): a tardis.Record is wanted": lambda: tardis.History().add((0, 0, "R", 8)),
+             "complete is 'no': True or False is wanted": lambda: tardis.check("", "", complete="no"),
+             "json is 1: True or False is wanted": lambda: tardis.check("", "", json=1),
+             "address is 8.0: a whole number is wanted": lambda: tardis.check("", "", opening={8.0: 1}),
+             "value is '5': a whole number is wanted": lambda: tardis.check("", "", opening={8: "5"})}
+    for wanted, make in wrong.items():
+        told = str(refuses(TypeError, make, wanted))
+        if told != wanted:
+            fail(f"{told}, wanted {wanted}")
+    for make in (tardis.History, lambda opening: tardis.Machine(memory=opening)):
+        told = str(refuses(TypeError, lambda: make([8]), "an opening without addresses"))
+        if told != "opening is [8]: values by byte address are wanted":
+            fail(f"an opening without addresses: {told}")
+
+
 def troubles():
     """Machines that are closed, and what is left open; options that a machine doesn't have, and values
     of wrong types or out of their ranges, each of which the error names."""
@@ -620,6 +638,9 @@ def counted():
     wanted = {"core": [0, 1], "loads": [1, 0], "ShReq": [1, 0]}
     if (columns(), columns("banks")) != (wanted, {"bank": [0], "held": [2]}):
         fail(f"counts by columns: {columns()}, {columns('banks')}")
+    told = str(refuses(ValueError, lambda: columns("bank"), "a part of the counts that there isn't"))
+    if told != "part is 'bank': it is cores or banks":
+        fail(f"a part of the counts that there isn't: {told}")
     report = tardis.trace("0 R 0x0\n0 R 0x0\n0 R 0x8\n", counts=True, every=2)
     if list(report.rows) != [2] or report.rows[2].cores[0]["loads"] != 2 or report.counts.cores[0]["loads"] != 3:
         fail(f"rows: {report.rows}, {report.counts}")
@@ -900,6 +921,7 @@ def machines(is_proved):
     asked()
     many()
     troubles()
+    wrong_kinds()
     return latency()
 
 

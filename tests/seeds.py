@@ -266,8 +266,10 @@ def refusals(tester, folder):
                         (["-1", "9", TEST], "argument FIRST: -1 isn't a number from 0"),
                         ([str(2 ** 64), "9", TEST], "argument FIRST"),
                         (["0", "9", TEST, "--lease", "0"], f"{TEST}: "),
-                        (["0", "9", TEST, "--runs", "8"], f"{TEST}: "),
-                        (["0", "9", TEST, "--json"], "reports that are joined have lines: --json has none"),
+                        (["0", "9", TEST, "--runs", "8"], "--runs isn't taken: FIRST and RUNS say which seeds are run"),
+                        (["0", "9", TEST, "--lease", "3", "--seed=7"], "--seed isn't taken: FIRST and RUNS say"),
+                        (["0", "9", TEST, "--schedule", "round"], "--schedule isn't taken: FIRST and RUNS say"),
+                        (["0", "9", TEST, "--json"], "--json isn't taken: reports are joined line by line"),
                         (["0", "9", "README.md"],
                          "README.md: line 1: 4 BadHeader: 'tools/explain.py -- litmus README.md' says why"),
                         ([*part, "3", "0", "9", TEST], "--part K wants --parts N"),
@@ -279,6 +281,11 @@ def refusals(tester, folder):
         status, out, error = tester.run(*words)
         good = (status, out, error.count("\n")) == (2, "", 1) and said in error
         tester.expect(good, f"{words}: {status} {out!r} {error!r}, wanted {said!r}")
+    with open("/dev/full", "w", encoding="ascii") as device:
+        ran = subprocess.run([tester.program, "--jobs", "1", "0", "9", TEST], stdout=device, stderr=subprocess.PIPE,
+                             check=False)
+    wanted = 2, b"seeds.py: standard output: No space left on device\n"
+    tester.expect((ran.returncode, ran.stderr) == wanted, f"a full device: {ran}")
     tester.expect(not list(Path(folder).iterdir()), f"left: {list(Path(folder).iterdir())}")
     for where, cause in ((">/dev/full", "No space left on device"), (">&-", "Bad file descriptor")):
         ran = subprocess.run(f"{tester.program} 0 9 {TEST} {where}", shell=True, check=False, stderr=subprocess.PIPE)

@@ -201,6 +201,16 @@ def shown(tester):
                   f"--short of a run that was cut: {head}")
     tester.refused("--where no=1: there is no column no", "--where", "no=1", "alone.trace")
     tester.refused("--panel no: there is no such column", "--panel", "no", "alone.trace")
+    for name, value in (("--svg", "a.svg"), ("--log", "x"), ("--panel", "lease")):
+        tester.refused(f"{name} needs --plot", name, value, "alone.trace")
+    tester.refused("--where needs --plot or --short", "--where", "lease=1", "alone.trace")
+    tester.refused("--where lease: COLUMN=LIST is wanted", "--where", "lease", "--short", "s.csv", "alone.trace")
+    for words in (("--csv", "alone.trace"), ("--short", "./alone.trace"), ("--named", "n", "--csv", "n"),
+                  ("--plot", "lease:renewals", "--svg", "alone.trace"), ("--csv", "a.csv", "--short", "./a.csv"),
+                  ("--csv", "a.svg", "--plot", "lease:renewals")):
+        tester.refused("would be overwritten", *words, "alone.trace")
+    tester.expect(Path("alone.trace").read_text() == ALONE, "the trace is overwritten")
+    tester.refused("--player needs --counts", "--player", tester.player, "alone.trace")
     tester.refused("no row is left to be drawn", "--csv", "all.csv", "--where", "lease=7", "--plot", "lease:renewals",
                    "--lease", "1", "--counts", "--player", tester.player, "alone.trace")
 

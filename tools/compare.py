@@ -16,7 +16,7 @@ from pathlib import Path
 
 sys.path.insert(0, str(Path(__file__).resolve().parent.parent))
 from reference.counted import KINDS  # noqa: E402
-from reference.given import Words, tool  # noqa: E402
+from reference.given import Bad, Words, tool  # noqa: E402
 from reference.schedules import Run, by_rounds, by_seed  # noqa: E402
 from tools import count_tables, measured, sweep  # noqa: E402
 from tools.plots import picture  # noqa: E402
@@ -37,7 +37,7 @@ def parser():
     words.add_argument("TRACE", nargs="+", help="a trace")
     words.add_argument("--csv", metavar="TABLE", help="the table")
     words.add_argument("--plot", metavar="X:Y", help="the columns that are drawn")
-    words.add_argument("--svg", metavar="PICTURE", default="compare.svg", help="the picture (compare.svg)")
+    words.add_argument("--svg", metavar="PICTURE", help="the picture (compare.svg)")
     for name, (what, usual) in SIZES.items():
         words.add_argument("--" + name, type=number(0 if name == "time-bytes" else 1, 1024), default=usual,
                            metavar="N", help=f"the bytes {what} ({usual})")
@@ -88,6 +88,10 @@ def save(path, text):
 
 def main(given):
     options = parser().parse_args(given)
+    if options.svg and not options.plot:
+        raise Bad("--svg needs --plot")
+    picture_file = (options.svg or "compare.svg") if options.plot else None
+    sweep.refuse_overwriting([path for path in (options.csv, picture_file) if path not in (None, "-")], options.TRACE)
     columns = ["trace", "name", *sweep.OPTIONS, *ROWS]
     axes = sweep.axes(options, columns) if options.plot else None
     names, rows = measured.varied(sweep.combinations(options)), []
@@ -100,7 +104,7 @@ def main(given):
         table = [columns, *([row[name] for name in columns] for row in rows)]
         save(options.csv, "".join(map(sweep.line_of, table)))
     if axes:
-        save(options.svg, "\n".join(picture({"": sweep.series(rows, *axes)}, *axes)) + "\n")
+        save(picture_file, "\n".join(picture({"": sweep.series(rows, *axes)}, *axes)) + "\n")
     return int(any(map(sweep.is_cut, rows)))
 
 

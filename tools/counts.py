@@ -177,7 +177,9 @@ def by_program(options):
     try:
         found, rows, last = points_of(ask, options.every, options.skip)
     except Bad as cause:
-        raise Bad(bad_configuration(options) if str(cause) == "bad configuration" else cause) from None
+        said = str(cause)
+        raise Bad(bad_configuration(options) if said == "bad configuration" else
+                  f"{options.FILE}: {said}" if said.startswith("line ") else said) from None
     return found.report["end"], rows, last, None
 
 
@@ -199,6 +201,8 @@ def refuse_cores(options, cores):
 
 def main(words):
     options = words_of_line().parse_args(words)
+    if options.columns and options.cores:
+        raise Bad("--columns and --cores: columns have numbers of the whole run")
     end, rows, last, made_by = (by_program if options.program else by_player)(options)
     cores = sum(part.startswith("core") for part in last.parts)
     refuse_cores(options, cores)

@@ -5,6 +5,7 @@ import io
 from collections import Counter, deque
 from contextlib import redirect_stderr
 from copy import deepcopy
+from itertools import takewhile
 
 from reference import oracle
 from reference.given import Bad, bad_configuration, has_machine
@@ -12,8 +13,9 @@ from reference.litmus_faults import LitmusFault
 from reference.machine import Machine
 from reference.reports import seed_of
 from reference.schedules import Run, a_round, by_rounds, by_seed
+from reference.streams import CORES, Begun
 from reference.told import Teller, operation
-from reference.traces import Fault
+from reference.traces import Fault, steps_in
 from tools.explained_texts import explained_text
 from tools.program import fail, text_of
 
@@ -24,6 +26,14 @@ REQUESTS, RECALLS = ("ShReq", "ExReq"), ("FlushReq", "WbReq")
 
 class NothingGoesOn(Exception):
     """Nothing was done for a long time."""
+
+
+class NoSuchCore(Exception):
+    """A line of a stream has a core that the machine hasn't."""
+
+    def __init__(self, line):
+        super().__init__(line)
+        self.line = line
 
 
 class Observed(Run):
@@ -196,14 +206,18 @@ def told(run, end, options):
 
 
 def refuse_others(words):
-    """An option that the command hasn't is named, with the commands that have it."""
+    """An option that the command hasn't is named, with the commands that have it; and one that is given twice. Behind
+    a -- there is none."""
     (commands,) = (action.choices for action in oracle.words()._actions if isinstance(action.choices, dict))
     options = {name: set(command._option_string_actions) for name, command in commands.items()}
-    for option in (word.partition("=")[0] for word in words[1:] if word.startswith("--")):
+    given = [word.partition("=")[0] for word in takewhile("--".__ne__, words[1:]) if word.startswith("--")]
+    for option in given:
         if words[0] in options and option not in options[words[0]]:
             having = " and ".join(name for name in options if option in options[name])
             fail(f"{option} is an option of {having}, and not of {words[0]}" if having
                  else f"no command has the option {option}")
+        if given.count(option) > 1:
+            fail(f"{option} is given more than once")
 
 
 def options_of(words):
@@ -218,6 +232,29 @@ def options_of(words):
     fail(said.getvalue().strip().rpartition("error: ")[2])
 
 
+def streamed(options, text):
+    """A trace that is read as it runs. Its machine has as many cores as the option says, though the trace has fewer."""
+    cores = options.cores or CORES
+    for line, core, _ in steps_in(text, most=None):
+        if core >= cores:
+            raise NoSuchCore(line)
+    return Begun(text, cores, has_words=False)
+
+
+def subject_of(options, text):
+    """The test or the trace of a command line, whose programs are as many as its machine has cores."""
+    if options.command != "trace":
+        return oracle.read_litmus(options.FILE)
+    return streamed(options, text) if options.stream else oracle.read_trace(options.FILE)
+
+
+def without_core(options, text, line):
+    """The lines on a step of a core that the machine of a stream hasn't."""
+    yield explained_text(options.FILE, text, f"line {line}: 4 BadCore", "trace")[0]
+    yield f"  4 BadCore: the machine's greatest core is {options.cores - 1} (--cores {options.cores})"
+    yield "  often meant: --cores is the greatest core of the trace plus 1."
+
+
 def explained_run(words):
     """The lines that explain the first run of a command line that isn't all done, and whether there is one."""
     try:
@@ -227,17 +264,21 @@ def explained_run(words):
         if getattr(options, "schedule", None) == "threads":
             fail("runs by threads can't be made again: docs/SCHEDULES.md (Threads) says what to try at their limit")
         text = text_of(options.FILE)
-        read = oracle.read_trace(options.FILE) if options.command == "trace" else oracle.read_litmus(options.FILE)
+        if getattr(options, "stream", False) and not has_machine(options, options.cores or CORES):
+            return bad_configuration(options).split("; "), True  # before anything of the text is read
+        subject = subject_of(options, text)
+    except NoSuchCore as at:
+        return list(without_core(options, text, at.line)), True
     except (Fault, LitmusFault) as fault:
         return explained_text(options.FILE, text, str(fault), "trace" if options.command == "trace" else "test"), True
     except (Bad, oracle.Refused) as cause:
         fail(str(cause).split("\n", maxsplit=1)[0].removeprefix("error: ").removeprefix("tardis: "))
     if options.command == "ends":
         return [f"{options.FILE}: nothing is wrong with this text"], False
-    if not has_machine(options, len(read.programs())):
+    if not has_machine(options, len(subject.programs())):
         return bad_configuration(options).split("; "), True
     for number in range(getattr(options, "runs", 1) if options.schedule == "seed" else 1):
-        run, end = run_of(read, options, number)
+        run, end = run_of(subject, options, number)
         if end != "all-done":
             which = [f"{options.FILE}, by seed {seed_of(options, number)}"] if options.schedule == "seed" else []
             return which + list(told(run, end, options)), True

@@ -28,17 +28,22 @@ ACCESS = re.compile(r" ([LSM]) ([0-9a-f]{1,16}),([0-9]{1,4})\s*")
 APART = 1 << 48  # between the addresses of two programs
 
 
-def of_lackey(file, core, shared):
-    """The accesses of a file: core, letter, address, bytes, value."""
+def of_lackey(file, path, core, shared):
+    """The accesses of a file: core, letter, address, bytes, value. If it has lines and none, standard error says so."""
+    others, is_listing = 0, False
     for line in file:
         found = ACCESS.fullmatch(line)
         if not found:
+            others += 1
             continue
+        is_listing = True
         address, size = int(found[2], 16) + (0 if shared else core * APART), int(found[3])
         if address + size > 2 ** 64:
             raise Bad(f"an access of {size} bytes at {address:#x}: addresses have 64 bits")
         for letter in LETTERS[found[1]]:
             yield core, letter, address, size, None
+    if others and not is_listing:
+        print(f"from_lackey.py: {path}: no line is an access as lackey lists it with --trace-mem=yes", file=sys.stderr)
 
 
 def of_csv(file, path):
@@ -53,7 +58,7 @@ def of_csv(file, path):
             raise Bad(f"{path}, line {at}: CORE,R|W|S,ADDRESS[,BYTES[,VALUE]] is wanted") from None
         if not (0 <= access[0] <= MOST_CORE and letter in ("R", "W", "S") and 0 < access[3] <= MOST_BYTES and
                 0 <= access[2] <= 2 ** 64 - access[3] and 0 <= (value or 0) < 2 ** 64):
-            raise Bad(f"{path}, line {at}: a core to 63, R, W or S, and numbers of 64 bits are wanted")
+            raise Bad(f"{path}, line {at}: a core to 63, R, W or S, 1 to 9999 bytes and numbers of 64 bits are wanted")
         yield access
 
 
@@ -63,7 +68,7 @@ def accesses(options):
     for core, path in enumerate(options.FILE):
         try:
             with open(path, encoding="ascii", errors="replace", newline="" if options.csv else None) as file:
-                yield from of_csv(file, path) if options.csv else of_lackey(file, core, options.shared)
+                yield from of_csv(file, path) if options.csv else of_lackey(file, path, core, options.shared)
         except OSError as error:
             raise Bad(f"{path}: {error.strerror}") from None
 

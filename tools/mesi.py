@@ -12,7 +12,6 @@ docs/DIRECTORY-TIMES.md has it. With --blocking the directory waits until the da
 --lost N breaks the machine: of a hundred invalidations, some N are acknowledged though the copy stays.
 The history has a line for each operation as it completes, such as `0 R 0x8 5 @ 1042`.
 """
-import argparse
 import heapq
 import random
 import sys
@@ -20,7 +19,7 @@ from collections import deque
 from pathlib import Path
 
 sys.path.insert(0, str(Path(__file__).resolve().parent.parent))
-from reference.given import tool  # noqa: E402
+from reference.given import Words, tool  # noqa: E402
 from tools.program import number  # noqa: E402
 
 
@@ -168,11 +167,11 @@ class Machine:
 
 
 def main(given):
-    about = argparse.ArgumentParser(description=__doc__, allow_abbrev=False,
-                                    formatter_class=argparse.RawDescriptionHelpFormatter)
-    for name, least, usual in (("seed", 0, 0), ("cores", 1, 3), ("operations", 0, 40), ("words", 1, 3), ("lost", 0, 0)):
-        about.add_argument(f"--{name}", type=number(least, 10 ** 6), default=usual, metavar="N",
-                           help=f"{least} or more ({usual})")
+    about = Words(__doc__)
+    for name, least, most, usual in (("seed", 0, 10 ** 6, 0), ("cores", 1, 64, 3), ("operations", 0, 10 ** 6, 40),
+                                     ("words", 1, 10 ** 6, 3), ("lost", 0, 100, 0)):
+        about.add_argument(f"--{name}", type=number(least, most), default=usual, metavar="N",
+                           help=f"{least} to {most} ({usual})")
     about.add_argument("--stamp", choices=["completion", "effect"], default="completion",
                        help="which cycle stands behind the @ (completion)")
     about.add_argument("--blocking", action="store_true", help="the directory waits until a load's data has arrived")

@@ -50,6 +50,15 @@ def words():
     return parser
 
 
+def refuse_own(options):
+    """Options of the program that a part has already, or with which its report can't be joined."""
+    for name in (word.partition("=")[0] for word in options):
+        if name in ("--seed", "--runs", "--schedule"):
+            fail(f"{name} isn't taken: FIRST and RUNS say which seeds are run")
+        if name == "--json":
+            fail("--json isn't taken: reports are joined line by line")
+
+
 def built_program():
     """The file of the program; the script builds it here if it isn't built."""
     named = os.environ.get("TARDIS")
@@ -141,8 +150,7 @@ def main(words_given):
     given = parser.parse_args(words_given)
     if given.part is not None and given.parts is None:
         parser.error("--part K wants --parts N")
-    if "--json" in given.options:
-        parser.error("reports that are joined have lines: --json has none")
+    refuse_own(given.options)
     text_of(given.TEST)
     parts, file = Parts(given), built_program()
     os.environ["TARDIS"] = str(file)

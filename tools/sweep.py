@@ -493,8 +493,36 @@ def refuse(options, columns):
         raise Bad("--every and --skip need --counts and --program")
     if options.program and options.player:
         raise Bad("--program and --player: one of them counts")
+    if options.player and not options.counts:
+        raise Bad("--player needs --counts")
     refuse_columns(options, columns)
     wanted(dict.fromkeys(columns, ""), options)
+    refuse_pictures(options)
+    table = table_of(options, options.part)
+    picture_file = (options.svg or Path(table).with_suffix(".svg")) if options.plot else None
+    refuse_overwriting(filter(None, (table, picture_file, options.short)),
+                       filter(None, (*options.TRACE, options.named)))
+
+
+def refuse_overwriting(written, read):
+    """Of the files that are written, none is read, or written twice. What is no file, as /dev/null, doesn't count."""
+    taken = {Path(path).resolve() for path in read}
+    for path in map(Path, written):
+        if path.resolve() in taken and (path.is_file() or not path.exists()):
+            raise Bad(f"{path} would be overwritten")
+        taken.add(path.resolve())
+
+
+def refuse_pictures(options):
+    """What is said of a picture or a short table that isn't asked for would mean nothing."""
+    for name in ("svg", "log", "panel"):
+        if getattr(options, name) and not options.plot:
+            raise Bad(f"--{name} needs --plot")
+    if options.where and not (options.plot or options.short):
+        raise Bad("--where needs --plot or --short")
+    for said in options.where:
+        if "=" not in said:
+            raise Bad(f"--where {said}: COLUMN=LIST is wanted")
 
 
 def refuse_columns(options, columns):

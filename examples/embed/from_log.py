@@ -9,6 +9,7 @@ takes no notice of that. For a log of your own, change LINE, LETTERS and effect(
 """
 import argparse
 import re
+import signal
 import sys
 
 LINE = re.compile(r"(?P<cycle>\d+) core (?P<core>\d+) (?P<kind>load|(?P<stores>store|swap)) (?P<address>0x[0-9a-f]+)"
@@ -38,4 +39,5 @@ def main():
 
 
 if __name__ == "__main__":
+    signal.signal(signal.SIGPIPE, signal.SIG_DFL)  # a reader that goes away, as head does, ends it without a word
     main()

@@ -93,6 +93,8 @@ class History:
         """`opening` has the values that words open with, by byte address; all others open with 0."""
         self._opening, self._operations, self._records = bytearray(), bytearray(), bytearray()
         self._issued: dict[int, int] = {}
+        if not isinstance(opening, Mapping | None):
+            raise TypeError(f"opening is {opening!r}: values by byte address are wanted")
         for address, value in (opening or {}).items():
             self.open(address, value)
 
@@ -110,7 +112,10 @@ class History:
     def add(self, record: Record) -> None:
         """The record of an operation that completed. Records may come in any order, and before their operations are
         issued. The numbers of completion go from 0, each once; times are in ticks."""
-        core, place, kind, address, value, received, time, number = record
+        try:
+            core, place, kind, address, value, received, time, number = record
+        except (TypeError, ValueError):
+            raise TypeError(f"record is {record!r}: a tardis.Record is wanted") from None
         plain = operation(core, kind, address, value)
         if (received is None) != (kind == "W"):
             raise ValueError(f"received is {received!r}: a store (W) has none, a load (R) and a swap (S) have one")

@@ -26,6 +26,13 @@ def within(name: str, value: Any, least: int, most: int) -> int:
     return whole(name, value)
 
 
+def flags(**given: Any) -> None:
+    """Refuses an option that is neither True nor False."""
+    for name, flag in given.items():
+        if not isinstance(flag, bool):
+            raise TypeError(f"{name} is {flag!r}: True or False is wanted")
+
+
 @dataclass(frozen=True, kw_only=True)
 class Options:
     """How a machine is built, and how a run goes on it."""
@@ -52,9 +59,7 @@ class Options:
         object.__setattr__(self, "line_words", whole("line_words", self.line_words))
         if self.line_words not in (1, 8):
             raise BadConfiguration(f"line_words is {self.line_words}: it is 1 or 8")
-        for name in ("private_write", "fair"):
-            if not isinstance(getattr(self, name), bool):
-                raise TypeError(f"{name} is {getattr(self, name)!r}: True or False is wanted")
+        flags(private_write=self.private_write, fair=self.fair)
         if self.schedule not in SCHEDULES:
             raise BadConfiguration(f"schedule is {self.schedule!r}: it is round or seed")
         if self.fair and self.schedule != "round":
@@ -80,9 +85,7 @@ class Asked:
     json: bool = False           # an object in place of lines
 
     def __post_init__(self) -> None:
-        for name in ("records", "counts", "json"):
-            if not isinstance(getattr(self, name), bool):
-                raise TypeError(f"{name} is {getattr(self, name)!r}: True or False is wanted")
+        flags(records=self.records, counts=self.counts, json=self.json)
         if self.every is not None:
             within("every", self.every, 1, MOST)
         if self.every is not None and not self.counts:

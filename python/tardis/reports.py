@@ -62,6 +62,8 @@ class Counts:
     def columns(self, part: Literal["cores", "banks"] = "cores") -> dict[str, list[int]]:
         """What was counted of the cores or the banks by columns, as `pandas.DataFrame` takes them: `core` or `bank` has
         their numbers, and a kind of message that one never had is 0 there."""
+        if part not in ("cores", "banks"):
+            raise ValueError(f"part is {part!r}: it is cores or banks")
         counted = self.cores if part == "cores" else self.banks
         names = dict.fromkeys(name for each in counted for name in each)
         return {part[:-1]: list(range(len(counted))),

@@ -8,7 +8,7 @@ from typing import Any, Literal, overload
 
 from tardis import found, library
 from tardis.errors import BadConfiguration, BadText, NoMemory, TardisError, TooManyStates
-from tardis.options import OF_RUNS, OF_TRACE, Asked, Options, given_options, within
+from tardis.options import OF_RUNS, OF_TRACE, Asked, Options, flags, given_options, whole, within
 from tardis.reports import CountedReport, EndsReport, LitmusReport, Records, TraceReport
 from tardis.reports import ends_report, litmus_report, records_of, trace_report
 
@@ -95,9 +95,7 @@ def ends(text: str | bytes, *, states: int = 4_194_304, orders: bool = False,
 
     Raises BadText, BadConfiguration, TooManyStates or NoMemory."""
     within("states", states, 1, 2 ** 32 - 1)
-    for name, flag in (("orders", orders), ("json", json)):
-        if not isinstance(flag, bool):
-            raise TypeError(f"{name} is {flag!r}: True or False is wanted")
+    flags(orders=orders, json=json)
     is_proved = library.loaded() is not None
     if is_proved:
         listed = library.ends(in_bytes(text), states, orders, json)
@@ -158,8 +156,10 @@ def check(trace: str | bytes, records: str | bytes, *, opening: Mapping[int, int
     `opening` has the values that words open with, by byte address or as a text; all others open with 0. With
     `complete`, legal records that lack an operation's are told by its core and place. With `json`, the verdict is the
     object that `--json` writes. Raises BadText or NoMemory."""
+    flags(complete=complete, json=json)
     if isinstance(opening, Mapping):
-        opening = "".join(f"{address:#x} {value}\n" for address, value in opening.items())
+        opening = "".join(f"{whole('address', address):#x} {whole('value', value)}\n"
+                          for address, value in opening.items())
     texts = in_bytes(opening), in_bytes(trace), in_bytes(records)
     if library.loaded():
         told = library.check(*texts, complete, json)

@@ -11,13 +11,14 @@ returns-in_default c =
     front-read BadOperation access_in refl c.skip_leading_blanks.result.now None _ c.skip_leading_blanks.ensures
     (letter-none c.skip_leading_blanks.result.now c.in_default.ensures)
 
-pub returns-in-Some-access : goal.returns-in-Some-access
+pub returns-in-Some-access_of_letter : goal.returns-in-Some-access_of_letter
 unfolding operation_at
-returns-in-Some-access c =
+returns-in-Some-access_of_letter c =
     front-read BadOperation access_in refl c.skip_leading_blanks.result.now
-    (Some (c.in-Some-access.access, fields_of c.in-Some.rest.now)) _ c.skip_leading_blanks.ensures
+    (Some (c.in-Some-access_of_letter.access, fields_of c.in-Some.rest.now)) _ c.skip_leading_blanks.ensures
     (letter-read c.skip_leading_blanks.result.now c.in-Some.letter (fields_of c.in-Some.rest.now)
-    (Some c.in-Some-access.access) c.in-Some.ensures (sym c.in-Some-access.is ∙ c.access_of_letter.ensures))
+    (Some c.in-Some-access_of_letter.access) c.in-Some.ensures
+    (sym c.in-Some-access_of_letter.is ∙ c.access_of_letter.ensures))
 
 pub returns-in-None : goal.returns-in-None
 unfolding operation_at

@@ -17,7 +17,8 @@ stopped, and its mutant counts as noticed.
 What was tried is kept in a file, and what was built in a folder, so a run that was interrupted goes on. After another
 commit what survived is tried again, and so is what survived a run by some commands (--by) alone. The survivors are
 printed, and those that no command comes by, each with its function, and at the end how many were noticed, and by what
-first. A row of tests/binary_mutants.table, `FUNCTION | BEFORE => AFTER | REASON`, says why one may survive.
+first. A row of tests/binary_mutants.table, `FUNCTION | LINE: BEFORE => AFTER | REASON`, says why one may survive, and
+that one isn't tried.
 """
 import argparse
 import contextlib
@@ -309,9 +310,9 @@ class Tried:
                        and not (command in self.alone and self.alone[command].isdisjoint(others)))
 
 
-def asked(rooms, name, mutants, kept, by=""):
-    """Has the gate's commands try the mutants, or those that match: what became of each, which ones any comes by, and
-    how many commands there are."""
+def asked(rooms, name, mutants, kept, by="", rows=()):
+    """Has the gate's commands, or those that match, try the mutants that no row excuses: what became of each, which
+    ones any comes by, and how many commands there are."""
     keys = [("command", name, kept.tree, each) for each in rooms[0].commands() if re.search(by, each)]
     all_of(rooms, [key for key in keys if key not in kept.told], lambda room, new: timed(room, new, kept))
     commands = {key[3]: (*kept.told[key][:2], set(kept.told[key][2]), *kept.told[key][3:])
@@ -329,10 +330,11 @@ def asked(rooms, name, mutants, kept, by=""):
             else:
                 survived.add(key)  # others may notice it
 
-    wanted = [("mutant", name, number) for number in mutants]
+    wanted = [("mutant", name, number) for number in mutants if label(mutants[number]) not in rows]
     all_of(rooms, [key for key in wanted if key not in kept.told], try_some)
     met = set().union(*(met for _, _, met, *_ in commands.values()))
-    return {key[2]: None if key in survived else kept.told[key] for key in wanted}, met, len(commands)
+    told = {key[2]: None if key in survived else kept.told[key] for key in wanted}
+    return {number: told.get(number) for number in mutants}, met, len(commands)
 
 
 def all_of(rooms, keys, work):
@@ -479,6 +481,11 @@ def self_test_of_asking(path):
     room = Pretended({"slow": (9, [1, 2, 3], [2, 3], []), "quick": (1, [1, 2], [2], []), "wrong": (0, [1, 4], [0], []),
                       events: (5, [1, 5, 6], [6], "xy")}, {"x": ([1, 5], [5]), "y": ([1, 6], [6])})
     mutants = {number: ("a::f", number, "a => b") for number in range(1, 7)}
+    other = Pretended(room.known, room.calls)
+    came, *_ = asked([other], "built", {2: mutants[2]}, Kept(path), rows={("a::f", "2: a => b")})
+    if came != {2: None}:
+        yield f"what becomes of a mutant that a row excuses: {came}"
+    path.unlink()
     told = {1: None, 2: ["quick", "status 1"], 3: ["slow", "status 1"], 4: None, 5: None, 6: [events, "status 1"]}
     came = asked([room], "built", mutants, Kept(path), "quick")
     if came != ({number: told[number] if number == 2 else None for number in mutants}, {1, 2}, 1):
@@ -547,7 +554,8 @@ def main(words):
     print(f"what is tried is kept in {kept.path}", file=sys.stderr)
     with tempfile.TemporaryDirectory() as place:
         rooms = [Changed(f"{place}/{number}", folder) for number in range(options.jobs)]
-        told, met, count = asked(rooms, name, mutants, kept, options.by)
+        rows = excused(TABLE.read_text(encoding="utf-8"))
+        told, met, count = asked(rooms, name, mutants, kept, options.by, rows)
     counts = judged(mutants, told, met)
     print(f"{len(mutants)} mutants of {of}, seed {options.seed}, by {count} commands: {counts['noticed']} noticed, "
           f"{counts['slow']} of them by their time, {counts['excused']} in tests/binary_mutants.table, "

@@ -1,12 +1,13 @@
 #!/usr/bin/env python3
 """Opens pages of tools/page.py in a browser, and compares them with what the player says: tests/page.py PLAYER
 
-The script steps eight runs to their end and back by keys. At ten places of each and more, it compares the page with
-the records and look-ups that PLAYER, a built play_events, answers to texts that were written by hand here. What the
-page says of an event of each kind is in page.table, by hand, too. The script tries the slider, the jumps and what is
-refused, and prints the time that a key takes in a page of thousands of events. It compares a litmus test's question,
-registers and verdict with the test and its report. A changed rule's history must be marked as wrong. Nothing may be
-cut from 360 pixels on. If no Chromium is installed, it says so, and tries only what needs none.
+The script steps ten runs to their end and back by keys. At ten places of each and more, it compares the page with the
+records and look-ups that PLAYER, a built play_events, answers to texts that were written by hand here, and at each
+event the part that is marked as acting. What the page says of an event of each kind is in page.table, by hand, too. The
+script tries the slider, the jumps, great numbers and what is refused, and prints the time that a key takes in a page of
+thousands of events. It compares a litmus test's question, registers and verdict with the test and its report. A changed
+rule's history must be marked as wrong. Nothing may be cut from 360 pixels on. If no Chromium is installed, it says so,
+and tries only what needs none.
 
     tests/page.py PLAYER --pictures FOLDER    writes the pictures of README.md, docs/TUTORIAL.md and docs/TEACHING.md into
                                               FOLDER, too
@@ -83,6 +84,9 @@ SEEN = """(() => {
       [...one.querySelectorAll(":scope > g")].map(middle), [0, 1].map(end => tie(one.querySelector(".tie"), end))]),
   });
 })()"""
+
+# The parts that are marked as the one at which the last event was made.
+ACTING = "[...document.querySelectorAll('.now')].map(one => one.id).join()"
 
 # The time that the slowest key takes, with its layout. Of the presses of a key the fastest counts: beside other work a
 # press may take longer.
@@ -163,6 +167,19 @@ def looked(player, machine, events, looks):
     for at, (number, look) in of.items():
         told[number][look] = came[at]
     return told
+
+
+def parts_acting(player, machine, events):
+    """By how many events are made, the part that the last one was at: a delivery is at the message's receiver."""
+    names = {number: event.split(" ")[1] for number, event in enumerate(events) if event.startswith("deliver")}
+    told = looked(player, machine, events, {number: [f"message {name}"] for number, name in names.items()})
+    parts = [""]
+    for number, event in enumerate(events):
+        what, *of = event.split(" ")
+        seat = of[:2] if what == "evict" else ["core", of[0]]
+        part = told[number][f"message {of[0]}"].split(" ")[4:6] if number in names else seat
+        parts.append("-".join(part).replace("dram", "bank"))  # a bank is shown with its DRAM
+    return parts
 
 
 def lines_of(events, machine):
@@ -308,6 +325,7 @@ def seen(browser):
 def stepped(browser, path, player, case, says):
     """Steps through a page by keys, to the end and back, and compares its places each way."""
     events, told = wanted(player, case, says)
+    parts = parts_acting(player, case[1], events)
     compared = Compared(case)
     browser.open(path)
     for way, key in ((range(len(events) + 1), "ArrowDown"), (range(len(events), -1, -1), "ArrowUp")):
@@ -317,6 +335,7 @@ def stepped(browser, path, player, case, says):
                 compared.same("place", page["count"], f"event {number} of {len(events)}")
                 compared.place(page, told[number], events[:number])
                 compared.same(f"event {number}", page["said"], says.get(number, page["said"]))
+            compared.same(f"who acts in event {number}", browser.value(ACTING), parts[number])
             browser.press(key)
     return compared.faults
 
@@ -611,6 +630,34 @@ def narrow(browser, folder):
                     yield f"{name} at {size}: {fault} is cut"
 
 
+# By page and key, the headlines of the events to which the key jumps one after the other. By hand: the caches and the
+# bank of `evicted` have one place each, so 0x0 must leave before 0x8 comes, and 0x8 before 0x0 comes back. In LOCK,
+# core 0 swaps first, and the others want the line in turn. In RENEW, core 0's own store brought it past its lease of x.
+JUMPED = {("evicted", "e"): ["The bank asks core 0 to give 0x0 up", "0x0 leaves the bank", "0x8 leaves core 1's cache",
+                             "0x8 leaves the bank"],
+          ("evicted", "l"): ["The bank asks core 0 to give 0x0 up"],
+          ("LOCK", "l"): ["The bank asks core 0 to give lock up", "The bank asks core 1 to give lock up"],
+          ("RENEW", "r"): ["The bank renews core 0's lease of x, up to time 21"],
+          ("RENEW", "l"): []}
+
+
+def jumped(browser, player, folder):
+    """Where the keys of renewals, recalls and evictions go, from the first event on, and with shift from the last."""
+    (folder / "evicted.trace").write_text("0 W 0x0 1\n1 R 0x8\n1 R 0x0\n")
+    written(player, [*"--sets 1 --ways 1 --bank-sets 1 --bank-ways 1".split(), str(folder / "evicted.trace")],
+            folder / "evicted.html")
+    for (name, key), wanted_of in JUMPED.items():
+        browser.open(folder / f"{name}.html")
+        for shift, first, listed in ((False, "Home", wanted_of), (True, "End", wanted_of[::-1])):
+            browser.press(first)
+            came, before = [], browser.value("at")
+            while browser.press(key.upper() if shift else key, shift) or browser.value("at") != before:
+                came.append(browser.value("document.getElementById('what').textContent"))
+                before = browser.value("at")
+            if came != listed:
+                yield f"{name}, {key} from {first}: {came}, wanted {listed}"
+
+
 # What the first line says of a run's options.
 HOWS = {"the past": "lease 3, by rounds", "IRIW by a seed": "lease 10, seed 7",
         "false sharing": "lease 10, by rounds, lines of 8 words",
@@ -632,15 +679,45 @@ def counted(player, folder):
             yield f"{name}: jumps to {found}, wanted {wanted}"
 
 
+# A machine that begins 16 below 2^64 = 18446744073709551616, so at ..1600; the first store takes ..1601. By hand: what
+# the page says after some events, of a number of ten digits or more its last four, of a shorter one all. The swap
+# takes a later time than the store before it, which is of the same line.
+GREAT = "0 W 0x0 18446744073709551557\n0 R 0x0\n0 W 0x8 123456789\n0 S 0x8 1234567890\n"
+BRIEF = {9: {"times": ["time …1600"], "memory": ["memory time …1600"],
+             "entries": {"entry 0x0": "0x0 = 0…1600..…1600"}},
+         11: {"messages": {"m3": "ExRep 0x0 wts …1600 rts …1600 words 0"}},
+         14: {"times": ["time …1601"], "copies": {"copy 0 0x0": "0x0 = 18446744073709551557 own …1601..…1601"}},
+         31: {"times": ["time …1601"]}, 32: {"times": ["time …1602"]}}
+BRIEF_BOXES = ["core 0 store …1557 to 0x0 time …1601", "core 0 load 0x0 → …1557 time …1601",
+               "core 0 store 123456789 to 0x8 time …1601", "core 0 swap …7890 into 0x8 → 123456789 time …1602"]
+# The boxes by timestamp, without what a pointer over them shows.
+BOXES = """[...document.querySelectorAll("#ties > g > g:last-child > text")].map(one =>
+  [...one.childNodes].filter(node => node.nodeName !== "title").map(node => node.textContent).join("")).join(" ")"""
+
+
 def great_times(player, folder):
-    """Times past 2^53, which JavaScript has no numbers for, are texts. A store at time T takes T + 1."""
-    path, time = folder / "great.html", 2 ** 64 - 16
-    written(player, ["--time", str(time), "examples/traces/FIRST-STORE.trace"], path)
+    """Numbers past 2^53, which JavaScript has none for, are texts."""
+    path = folder / "great.html"
+    (folder / "great.trace").write_text(GREAT)
+    written(player, ["--time", "18446744073709551600", str(folder / "great.trace")], path)
     data = data_of(path)
-    if data["records"] != [[0, "store", "0x0", "1", None, str(time + 1)]]:
-        yield f"great times: {data['records']}"
+    if data["records"][0] != [0, "store", "0x0", "18446744073709551557", None, "18446744073709551601"]:
+        yield f"great times: {data['records'][0]}"
     if great := re.findall(r"(?<![\w\"])\d{16,}(?!\w)", re.sub(r'"(?:[^"\\]|\\.)*"', '""', json.dumps(data))):
         yield f"great times: numbers {great}"
+
+
+def shortened(browser, folder):
+    """What the page shows of great numbers."""
+    compared = Compared(CASES["a first store"])
+    browser.open(folder / "great.html")
+    for event, wanted_of in BRIEF.items():
+        browser.value(f"go({event})")
+        page = seen(browser)
+        page["messages"] = {name: text for name, (text, *_) in page["messages"].items()}
+        compared.same(f"great numbers at event {event}", {name: page[name] for name in wanted_of}, wanted_of)
+    compared.same("great numbers in boxes", browser.value(BOXES), " ".join(BRIEF_BOXES))
+    return compared.faults
 
 
 def refusals(player, folder):
@@ -671,6 +748,8 @@ def in_browser(browser, player, pages, folder):
     yield from accessible(browser, pages["the past"])
     yield from asked(browser, folder)
     yield from narrow(browser, folder)
+    yield from jumped(browser, player, folder)
+    yield from shortened(browser, folder)
     browser.open(f"{folder / 'long.html'}#3000")
     yield from [f"the long page: {fault} is cut" for fault in [cut(browser)] if fault]
     took = browser.value(TIMED)

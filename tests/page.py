@@ -1,19 +1,19 @@
 #!/usr/bin/env python3
 """Opens pages of tools/page.py in a browser, and compares them with what the player says: tests/page.py PLAYER
 
-The script steps eight runs to their end and back by keys. At ten places of each and more, it compares the page with
-the records and look-ups that PLAYER, a built play_events, answers to texts that were written by hand here. What the
-page says of an event of each kind is in page.table, by hand, too. The script tries the slider, the jumps and what is
-refused, and prints the time that a key takes in a page of thousands of events. It compares a litmus test's question,
-registers and verdict with the test and its report. A changed rule's history must be marked as wrong. Nothing may be
-cut from 360 pixels on. If no Chromium is installed, it says so, and tries only what needs none.
+The script steps ten runs to their end and back by keys. At ten places of each and more, it compares the page with the
+records and look-ups that PLAYER, a built play_events, answers to texts that were written by hand here, and at each
+event the part that is marked as acting. What the page says of an event of each kind is in page.table, by hand, too. The
+script tries the slider, the jumps, great numbers and what is refused, and prints the time that a key takes in a page of
+thousands of events. It compares a litmus test's question, registers and verdict with the test and its report. A changed
+rule's history must be marked as wrong. Nothing may be cut from 360 pixels on. If no Chromium is installed, it says so,
+and tries only what needs none.
 
     tests/page.py PLAYER --pictures FOLDER    writes the pictures of README.md, docs/TUTORIAL.md and docs/TEACHING.md into
                                               FOLDER, too
 """
 import json
 import re
-import shlex
 import subprocess
 import sys
 import tempfile
@@ -22,6 +22,8 @@ from pathlib import Path
 TOP = Path(__file__).resolve().parent.parent
 sys.path.insert(0, str(TOP))
 from tests.browser import Browser, installed  # noqa: E402
+from tests.written_pages import (braces, counted, data_of, great_times, made_trace, questions,  # noqa: E402
+                                 refusals, written)
 
 
 TABLE = Path(__file__).with_suffix(".table")
@@ -83,6 +85,9 @@ SEEN = """(() => {
       [...one.querySelectorAll(":scope > g")].map(middle), [0, 1].map(end => tie(one.querySelector(".tie"), end))]),
   });
 })()"""
+
+# The parts that are marked as the one at which the last event was made.
+ACTING = "[...document.querySelectorAll('.now')].map(one => one.id).join()"
 
 # The time that the slowest key takes, with its layout. Of the presses of a key the fastest counts: beside other work a
 # press may take longer.
@@ -163,6 +168,19 @@ def looked(player, machine, events, looks):
     for at, (number, look) in of.items():
         told[number][look] = came[at]
     return told
+
+
+def parts_acting(player, machine, events):
+    """By how many events are made, the part that the last one was at: a delivery is at the message's receiver."""
+    names = {number: event.split(" ")[1] for number, event in enumerate(events) if event.startswith("deliver")}
+    told = looked(player, machine, events, {number: [f"message {name}"] for number, name in names.items()})
+    parts = [""]
+    for number, event in enumerate(events):
+        what, *of = event.split(" ")
+        seat = of[:2] if what == "evict" else ["core", of[0]]
+        part = told[number][f"message {of[0]}"].split(" ")[4:6] if number in names else seat
+        parts.append("-".join(part).replace("dram", "bank"))  # a bank is shown with its DRAM
+    return parts
 
 
 def lines_of(events, machine):
@@ -293,14 +311,6 @@ class Compared:
                 self.faults.append(f"the tie of record {number}: {tie}, wanted {ends}")
 
 
-def written(player, words, path):
-    """Runs tools/page.py; its status, and what it says on standard error."""
-    with path.open("wb") as out:
-        ran = subprocess.run([TOP / "tools/page.py", "--player", shlex.quote(player), *words], cwd=TOP, check=False,
-                             stdout=out, stderr=subprocess.PIPE)
-    return ran.returncode, ran.stderr.decode()
-
-
 def seen(browser):
     return json.loads(browser.value(SEEN))
 
@@ -308,6 +318,7 @@ def seen(browser):
 def stepped(browser, path, player, case, says):
     """Steps through a page by keys, to the end and back, and compares its places each way."""
     events, told = wanted(player, case, says)
+    parts = parts_acting(player, case[1], events)
     compared = Compared(case)
     browser.open(path)
     for way, key in ((range(len(events) + 1), "ArrowDown"), (range(len(events), -1, -1), "ArrowUp")):
@@ -317,6 +328,7 @@ def stepped(browser, path, player, case, says):
                 compared.same("place", page["count"], f"event {number} of {len(events)}")
                 compared.place(page, told[number], events[:number])
                 compared.same(f"event {number}", page["said"], says.get(number, page["said"]))
+            compared.same(f"who acts in event {number}", browser.value(ACTING), parts[number])
             browser.press(key)
     return compared.faults
 
@@ -442,39 +454,6 @@ def cut(browser):
         .map(one => one.textContent.trim()).join(", ")""")
 
 
-def made_trace(cores, words, count):
-    """A trace of `count` operations of cores on words."""
-    steps = [f"{n * n % cores} {'R' if n * 7 % 5 < 3 else 'W'} {8 * (n * n * 3 % 7 % words):#x}" for n in range(count)]
-    return "".join(step + (f" {n}\n" if " W " in step else "\n") for n, step in enumerate(steps))
-
-
-def ring(cores):
-    """A test whose threads each store to a word of their own and then load the next one's."""
-    words, of = "abcdefgh"[:cores], range(cores)
-    row = lambda cell: " | ".join(cell for _ in of) + " ;\n"  # noqa: E731
-    named = " ".join(f"{core}:x5=1; {core}:x6={words[core]}; {core}:x8={words[core - cores + 1]};" for core in of)
-    return "RISCV RING\n\"a ring\"\n{ %s }\n%s%s%sexists (%s)\n" % (
-        named, " | ".join(f"P{core}" for core in of) + " ;\n", row("sw x5,0(x6)"), row("lw x7,0(x8)"),
-        " /\\ ".join(f"{core}:x7=0" for core in of))
-
-
-# A test with the longest names: by rounds P1 loads the flag before it is stored, and swaps behind that.
-NAMES = """RISCV NAMES
-"names of thirty-two letters"
-{ 0:x5=1; 0:x6=message_buffer_of_the_first_core; 0:x8=ready_flag_of_the_first_core_abc;
-  1:x6=ready_flag_of_the_first_core_abc; 1:x8=message_buffer_of_the_first_core; }
- P0          | P1                      ;
- sw x5,0(x6) | lw x7,0(x6)             ;
- sw x5,0(x8) | lw x9,0(x8)             ;
-             | amoswap.w x10,x7,(x8)   ;
-exists (1:x7=1 /\\ 1:x9=0)
-"""
-# By test its registers, by hand, and what is said behind the end of its run, which its report has.
-QUESTIONS = {"SB": ([[None, "x7"], [None, "x7"]], "not the end asked for; verdict no"),
-             "MP+yes": ([[None, None], ["x7", "x9"]], "the end asked for; verdict yes"),
-             "LOCK": ([["x7"], ["x7"], ["x7"]], "the expression does not hold; verdict yes"),
-             "SB+forall": ([[None, "x7"], [None, "x7"]], "the expression holds; verdict yes"),
-             "S": ([[None, None], ["x7", None]], "not the end asked for; verdict no")}
 # How many pixels of the cores are below the window, at the worst event.
 BELOW = """Math.max(...[...Array(run.steps.length + 1).keys()].map(at => {
   go(at);
@@ -483,90 +462,7 @@ BELOW = """Math.max(...[...Array(run.steps.length + 1).keys()].map(at => {
 }))"""
 LINES = """(one => Math.round(one.getBoundingClientRect().height / parseFloat(getComputedStyle(one).lineHeight)))(
   document.getElementById("answer"))"""
-# A store that takes its lease's last time, so that a load there misses it (docs/CHANGING-A-RULE.md).
-RULE, CHANGED = "copy.rts if private else fit(copy.rts + 1)", "copy.rts"
-WRONG_LOAD = "Core 1 loads 0x0 and receives 0, at time 1 (here: wrong value)"
-WRONG = ["--schedule", "seed", "--seed", "23", "--limit", "500", "--lease", "1", "--sets", "1", "--ways", "2",
-         "--bank-sets", "1", "--bank-ways", "1"]
 SIZES = ((360, 740), (390, 844), (770, 1000), (1024, 768), (1280, 720), (1920, 1080))
-
-
-def data_of(path):
-    return json.loads(re.search(r'(?s)<script id="data"[^>]*>(.*?)</script>', path.read_text())[1])
-
-
-# A test whose header has braces, and whose block has a line that begins as a condition does. It ends as asked.
-BRACES = """RISCV BRACES
-Orig={a}
-"what of {x}?"
-{ 0:x5=1; 0:x6=x;
-exists=2;
-0:x8=exists; }
- P0          ;
- sw x5,0(x6) ;
- lw x7,0(x8) ;
-\r exists (0:x7=2 /\\
-exists=2)
-"""
-ASKED = {"asked": "what of {x}?", "condition": "exists (0:x7=2 /\\ exists=2)", "registers": [[None, "x7"]],
-         "answer": "0:x7=2 exists=2: the end asked for; verdict yes"}
-
-
-def braces(player, folder):
-    """The question of such a test, from a file and through a pipe."""
-    path = folder / "braces.litmus"
-    path.write_text(BRACES, newline="")
-    for words, text in (([path], b""), (["/dev/stdin"], path.read_bytes())):
-        with (folder / "braces.html").open("wb") as out:
-            subprocess.run([TOP / "tools/page.py", "--player", shlex.quote(player), *words], cwd=TOP, check=False,
-                           stdout=out, input=text)
-        found = data_of(folder / "braces.html")["question"]
-        if found != ASKED:
-            yield f"{words}: {found}, wanted {ASKED}"
-
-
-def questions(player, folder):
-    """The question of litmus tests, and a history that a changed rule made wrong."""
-    for name, (registers, said) in QUESTIONS.items():
-        path = folder / f"{name}.html"
-        written(player, [f"examples/litmus/{name}.litmus"], path)
-        text = (TOP / f"examples/litmus/{name}.litmus").read_text()
-        report = (TOP / f"examples/litmus/{name}.report").read_text()
-        end = re.search(r"(?m)^states 1\n1 (.*)$", report)[1]
-        wanted = {"asked": text.split('"')[1], "registers": registers, "answer": f"{end}: {said}",
-                  "condition": " ".join(re.search(r"(?ms)^(~?exists|forall)\b.*", text)[0].split())}
-        found = data_of(path)["question"]
-        if found != wanted or f"verdict {said.split()[-1]}\n" not in report:
-            yield f"{name}: {found}, wanted {wanted}"
-    written(player, ["examples/litmus/IRIW.litmus"], folder / "IRIW.html")
-    (folder / "names.litmus").write_text(NAMES)
-    (folder / "ring.litmus").write_text(ring(8))
-    (folder / "eight.trace").write_text("".join(f"{core} W {8 * core:#x} 1\n" for core in range(8)) +
-                                        made_trace(8, 4, 48))
-    for name, words in (("names", ["names.litmus"]), ("ring", ["--banks", "2", "ring.litmus"]),
-                        ("eight", ["eight.trace"])):
-        written(player, [*words[:-1], str(folder / words[-1])], folder / f"{name}.html")
-    source = (TOP / "reference/machine.py").read_text()
-    changed = folder / "changed.py"
-    changed.write_text(f"#!{sys.executable}\nimport sys\nsys.path.insert(0, {str(TOP)!r})\n"
-                       "from reference import machine\n"
-                       f"exec(compile({source.replace(RULE, CHANGED)!r}, 'changed', 'exec'), machine.__dict__)\n"
-                       "from reference import play\nsys.exit(play.main(sys.argv[1:]))\n")
-    changed.chmod(0o755)
-    (folder / "two.trace").write_text("0 W 0x0 1\n1 R 0x0\n")
-    text = re.search(r"(?s)\nexample (.*?)```", (TOP / "docs/CHANGING-A-RULE.md").read_text())
-    (folder / "wrong.events").write_text(text[0].strip("`\n") + "\n")
-    status, said = written(str(changed), [str(folder / "wrong.events")], folder / "events.html")
-    shown = data_of(folder / "events.html")
-    if status != 1 or "wrong: wrong value 1" not in said or shown["end"] != "The text ends here." or \
-            [step[2] for step in shown["steps"] if "w" in step[6]] != [WRONG_LOAD]:
-        yield f"a text of a wrong history: status {status}, {said!r}, {shown['end']}"
-    status, said = written(str(changed), [*WRONG, str(folder / "two.trace")], folder / "wrong.html")
-    found = data_of(folder / "wrong.html")
-    marked = [step[1] for step in found["steps"] if "w" in step[6]]
-    if source.count(RULE) != 1 or status != 1 or "wrong: wrong value 1" not in said or found["wrong"] != 1 or \
-            marked != ["completed 1 0 R 0x0 0 1 1"]:
-        yield f"a changed rule: status {status}, {said!r}, {found['wrong']}, {marked}"
 
 
 def asked(browser, folder):
@@ -641,65 +537,63 @@ def narrow(browser, folder):
                     yield f"{name} at {size}: {fault} is cut"
 
 
+# By page and key, the headlines of the events to which the key jumps one after the other. By hand: the caches and the
+# bank of `evicted` have one place each, so 0x0 must leave before 0x8 comes, and 0x8 before 0x0 comes back. In LOCK,
+# core 0 swaps first, and the others want the line in turn. In RENEW, core 0's own store brought it past its lease of x.
+JUMPED = {("evicted", "e"): ["The bank asks core 0 to give 0x0 up", "0x0 leaves the bank", "0x8 leaves core 1's cache",
+                             "0x8 leaves the bank"],
+          ("evicted", "l"): ["The bank asks core 0 to give 0x0 up"],
+          ("LOCK", "l"): ["The bank asks core 0 to give lock up", "The bank asks core 1 to give lock up"],
+          ("RENEW", "r"): ["The bank renews core 0's lease of x, up to time 21"],
+          ("RENEW", "l"): []}
+
+
+def jumped(browser, player, folder):
+    """Where the keys of renewals, recalls and evictions go, from the first event on, and with shift from the last."""
+    (folder / "evicted.trace").write_text("0 W 0x0 1\n1 R 0x8\n1 R 0x0\n")
+    written(player, [*"--sets 1 --ways 1 --bank-sets 1 --bank-ways 1".split(), str(folder / "evicted.trace")],
+            folder / "evicted.html")
+    for (name, key), wanted_of in JUMPED.items():
+        browser.open(folder / f"{name}.html")
+        for shift, first, listed in ((False, "Home", wanted_of), (True, "End", wanted_of[::-1])):
+            browser.press(first)
+            came, before = [], browser.value("at")
+            while browser.press(key.upper() if shift else key, shift) or browser.value("at") != before:
+                came.append(browser.value("document.getElementById('what').textContent"))
+                before = browser.value("at")
+            if came != listed:
+                yield f"{name}, {key} from {first}: {came}, wanted {listed}"
+
+
 # What the first line says of a run's options.
 HOWS = {"the past": "lease 3, by rounds", "IRIW by a seed": "lease 10, seed 7",
         "false sharing": "lease 10, by rounds, lines of 8 words",
         "private writes": "lease 10, by rounds, private writes", "fair rounds": "lease 10, by fair rounds"}
 
 
-def counted(player, folder):
-    """Jumps find as many events of each kind as a test's report counts."""
-    for name in ("SB", "LOCK", "RENEW", "STALE"):
-        path = folder / f"{name}.html"
-        written(player, [f"examples/litmus/{name}.litmus"], path)
-        report = (TOP / f"examples/litmus/{name}.report").read_text()
-        told = {words[0]: int(words[1]) for words in map(str.split, report.splitlines()) if words[-1].isdigit()
-                and len(words) == 2}
-        wanted = {"c": told["completed"], "s": told["stale-hits"], "r": told["renewals"],
-                  "l": told["flushes"] + told["write-backs"]}
-        found = {key: sum(key in step[6] for step in data_of(path)["steps"]) for key in wanted}
-        if found != wanted:
-            yield f"{name}: jumps to {found}, wanted {wanted}"
+BRIEF = {9: {"times": ["time …1600"], "memory": ["memory time …1600"],
+             "entries": {"entry 0x0": "0x0 = 0…1600..…1600"}},
+         11: {"messages": {"m3": "ExRep 0x0 wts …1600 rts …1600 words 0"}},
+         14: {"times": ["time …1601"], "copies": {"copy 0 0x0": "0x0 = 18446744073709551557 own …1601..…1601"}},
+         31: {"times": ["time …1601"]}, 32: {"times": ["time …1602"]}}
+BRIEF_BOXES = ["core 0 store …1557 to 0x0 time …1601", "core 0 load 0x0 → …1557 time …1601",
+               "core 0 store 123456789 to 0x8 time …1601", "core 0 swap …7890 into 0x8 → 123456789 time …1602"]
+# The boxes by timestamp, without what a pointer over them shows.
+BOXES = """[...document.querySelectorAll("#ties > g > g:last-child > text")].map(one =>
+  [...one.childNodes].filter(node => node.nodeName !== "title").map(node => node.textContent).join("")).join(" ")"""
 
 
-def great_times(player, folder):
-    """Times past 2^53, which JavaScript has no numbers for, are texts. A store at time T takes T + 1."""
-    path, time = folder / "great.html", 2 ** 64 - 16
-    written(player, ["--time", str(time), "examples/traces/FIRST-STORE.trace"], path)
-    data = data_of(path)
-    if data["records"] != [[0, "store", "0x0", "1", None, str(time + 1)]]:
-        yield f"great times: {data['records']}"
-    if great := re.findall(r"(?<![\w\"])\d{16,}(?!\w)", re.sub(r'"(?:[^"\\]|\\.)*"', '""', json.dumps(data))):
-        yield f"great times: numbers {great}"
-
-
-def bad_players():
-    """Commands that are no player: each is told in one line."""
-    for command, says in (("/bin/cat", "/bin/cat doesn't play texts of events"), ("", "--player: a command is wanted"),
-                          ("'", "--player ': No closing quotation"), ("none", "none: No such file or directory")):
-        ran = subprocess.run([TOP / "tools/page.py", "--player", command, "examples/litmus/SB.litmus"], cwd=TOP,
-                             check=False, capture_output=True, text=True)
-        if (ran.returncode, ran.stdout, ran.stderr.count("\n")) != (2, "", 1) or says not in ran.stderr:
-            yield f"--player {command}: {ran}"
-
-
-def refusals(player, folder):
-    """What is answered in one line, and what the page says of a run that isn't all done."""
-    yield from bad_players()
-    (folder / "bad.events").write_text("example x\nmachine cores 99 : opened\nissue 0 R 0x0 : issued\n")
-    (folder / "huge.trace").write_text("".join(f"{n % 8} W 0x0 {n}\n" for n in range(900)))
-    for words, status, says in (([folder / "huge.trace"], 2, "a page shows 5,000 at most"),
-                                (["README.md"], 2, "README.md: line 3: 4 BadCore"),
-                                (["no.trace"], 2, "no.trace: No such file or directory"),
-                                ([folder / "bad.events"], 2, "`machine cores 99` is refused BadConfig"),
-                                (["--time", "-1", "examples/traces/PAST.trace"], 2, "configuration: --time -1: 0 to"),
-                                (["--limit", "0", "examples/traces/PAST.trace"], 2, "configuration: --limit 0: 1 to"),
-                                (["--limit", "4", "examples/traces/PAST.trace"], 1, "The run was cut")):
-        came, said = written(player, list(map(str, words)), folder / "refused.html")
-        if came != status or says not in said or said.count("\n") != 1:
-            yield f"{words[-1]}: status {came}, {said!r}"
-    if "The run was cut" not in (folder / "refused.html").read_text():
-        yield "a page doesn't say that its run was cut"
+def shortened(browser, folder):
+    """What the page shows of great numbers."""
+    compared = Compared(CASES["a first store"])
+    browser.open(folder / "great.html")
+    for event, wanted_of in BRIEF.items():
+        browser.value(f"go({event})")
+        page = seen(browser)
+        page["messages"] = {name: text for name, (text, *_) in page["messages"].items()}
+        compared.same(f"great numbers at event {event}", {name: page[name] for name in wanted_of}, wanted_of)
+    compared.same("great numbers in boxes", browser.value(BOXES), " ".join(BRIEF_BOXES))
+    return compared.faults
 
 
 def in_browser(browser, player, pages, folder):
@@ -716,6 +610,8 @@ def in_browser(browser, player, pages, folder):
     yield from accessible(browser, pages["the past"])
     yield from asked(browser, folder)
     yield from narrow(browser, folder)
+    yield from jumped(browser, player, folder)
+    yield from shortened(browser, folder)
     browser.open(f"{folder / 'long.html'}#3000")
     yield from [f"the long page: {fault} is cut" for fault in [cut(browser)] if fault]
     took = browser.value(TIMED)

@@ -6,7 +6,10 @@ each a share of the time:
 
     threads   traces of 64 cores by 16 workers on 8 banks, with few places or many, lines of both sizes, private writes,
               fair turns or not. Each history is closed and checked: by the program, which must find each operation's
-              record where the run was all done, and by the second program.
+              record where the run was all done, and by the second program. No command prints both the records of a run
+              and the values that it leaves, so a run by one worker, which is the same each time, is made for each. The
+              report must have the values of a flat memory that the records change in their order. Those of another
+              run by all workers must be possible.
     texts     litmus tests and traces, some damaged, under any options: the program prints what the second one does.
     players   events and calls of seats: the players answer what the second program's parts do.
 
@@ -24,9 +27,9 @@ from pathlib import Path
 
 TOP = Path(__file__).resolve().parent.parent
 sys.path.insert(0, str(TOP))
-from reference.order import check  # noqa: E402
+from reference.order import check, end_memory  # noqa: E402
 from reference.traces import Trace, read_records  # noqa: E402
-from tests import ends, fair, texts  # noqa: E402
+from tests import by_threads, ends, fair, texts  # noqa: E402
 
 CORES, WORKERS, BANKS = 64, 16, 8
 SECONDS, PATIENCE = 1200, 10800  # of a command: of processor time, and by the clock, since a soak may wait for others
@@ -61,7 +64,7 @@ class Threads:
     """Traces by many workers."""
 
     def __init__(self, options):
-        self.program, self.kept, self.steps, self.finished = options.PROGRAM, options.kept, 0, 0
+        self.program, self.kept, self.steps, self.finished, self.values = options.PROGRAM, options.kept, 0, 0, 0
 
     def case(self, draw):
         each, words = draw.choice([5, 20, 100]), draw.choice([4, 16, 64, 512])
@@ -71,13 +74,14 @@ class Threads:
         few += draw.choice([[], [f"--bank-sets={draw.randint(1, 2)}", f"--bank-ways={draw.randint(1, 4)}"]])
         line = [self.program, "trace", "--schedule=threads", f"--workers={WORKERS}", f"--banks={BANKS}", *few,
                 f"--line-words={draw.choice([1, 8])}", f"--lease={draw.choice([1, 10, 1000])}",
-                *draw.choice([[], ["--private-write"]]), *draw.choice([[], ["--fair"]]), "--limit=100000", "--records",
-                "/dev/stdin"]
-        status, records, error = ran(line, text)
-        files = {"trace": text, "records": records, "command": shlex.join(line).encode()}
+                *draw.choice([[], ["--private-write"]]), *draw.choice([[], ["--fair"]]), "--limit=100000"]
+        status, records, error = ran([*line, "--records", "/dev/stdin"], text)
+        files = {"trace": text, "records": records, "command": shlex.join([*line, "--records", "/dev/stdin"]).encode()}
         if status not in (0, 1) or error:
             raise Difference(f"status {status}: {error.decode(errors='replace')}", **files)
         self.judge(text, records, status == 0, files)
+        self.replay([word.replace(f"--workers={WORKERS}", "--workers=1") for word in line], text)
+        self.report(line, text)
         self.steps += records.count(b"\n")
         self.finished += status == 0
 
@@ -92,9 +96,27 @@ class Threads:
         if said != "legal":
             raise Difference(f"the second program's check: {said}", **files)
 
+    def replay(self, line, text):
+        """Compares what a run by one worker leaves with a flat memory that its records change, by timestamp and then by
+        completion."""
+        (status, records, error), report = (ran([*line, *more, "/dev/stdin"], text) for more in (["--records"], []))
+        memory, words = end_memory({}, read_records(records)), Trace(text).words()
+        wanted = [f"word {8 * word:#x} {memory.get(word, 0)}".encode() for word in words]
+        if report[::2] != (status, b"") or error or report[1].splitlines()[-len(words):] != wanted:
+            raise Difference("the values that a run by one worker leaves", trace=text, records=records,
+                             report=report[1], wanted=b"\n".join(wanted), command=shlex.join(line).encode())
+        self.values += len(words)
+
+    def report(self, line, text):
+        """Judges what the report of a run by all workers says, which can't be of the run whose records are there."""
+        status, report, error = ran([*line, "/dev/stdin"], text)
+        found = [*by_threads.trace_faults(self.kept / "trace", status, report.decode()), *[error] * bool(error)]
+        if found:
+            raise Difference(f"the report: {found}", trace=text, report=report, command=shlex.join(line).encode())
+
     def tried(self, count):
         return (f"{count} traces of {CORES} cores by {WORKERS} workers, {self.finished} all done, {self.steps} records "
-                "checked twice")
+                f"checked twice, {self.values} values replayed")
 
 
 class Texts:

@@ -130,11 +130,6 @@ def source_of(value, of_word, place, opening):
         yield f"No record wrote {value} there."
 
 
-def operation_of(fields):
-    """An operation as a trace has it, in one form: leading zeros say nothing."""
-    return fields[0], int(fields[1], 16), *map(int, fields[2:])
-
-
 def out_of_order(history, at):
     record = history.records[at]
     core, place = record.core, record.place

@@ -1,6 +1,5 @@
 """The rows of docs/PROTOCOL.md's tables, and which of them a search met."""
 
-LOADS, WRITES = ("ShReq",), ("ExReq",)
 # Each row: its section, its words, and what `look` and the answer must be. `sent` is a kind that was sent.
 ROWS = [
     ("A core", "a load on an Exclusive copy", "load Exclusive: Completed"),

@@ -1,0 +1,197 @@
+"""What pages of tools/page.py hold, without a browser: questions, counts, great numbers; for tests/page.py."""
+import json
+import re
+import shlex
+import subprocess
+import sys
+from pathlib import Path
+
+TOP = Path(__file__).resolve().parent.parent
+
+
+def written(player, words, path):
+    """Runs tools/page.py; its status, and what it says on standard error."""
+    with path.open("wb") as out:
+        ran = subprocess.run([TOP / "tools/page.py", "--player", shlex.quote(player), *words], cwd=TOP, check=False,
+                             stdout=out, stderr=subprocess.PIPE)
+    return ran.returncode, ran.stderr.decode()
+
+
+def made_trace(cores, words, count):
+    """A trace of `count` operations of cores on words."""
+    steps = [f"{n * n % cores} {'R' if n * 7 % 5 < 3 else 'W'} {8 * (n * n * 3 % 7 % words):#x}" for n in range(count)]
+    return "".join(step + (f" {n}\n" if " W " in step else "\n") for n, step in enumerate(steps))
+
+
+def ring(cores):
+    """A test whose threads each store to a word of their own and then load the next one's."""
+    words, of = "abcdefgh"[:cores], range(cores)
+    row = lambda cell: " | ".join(cell for _ in of) + " ;\n"  # noqa: E731
+    named = " ".join(f"{core}:x5=1; {core}:x6={words[core]}; {core}:x8={words[core - cores + 1]};" for core in of)
+    return "RISCV RING\n\"a ring\"\n{ %s }\n%s%s%sexists (%s)\n" % (
+        named, " | ".join(f"P{core}" for core in of) + " ;\n", row("sw x5,0(x6)"), row("lw x7,0(x8)"),
+        " /\\ ".join(f"{core}:x7=0" for core in of))
+
+
+# A test with the longest names: by rounds P1 loads the flag before it is stored, and swaps behind that.
+NAMES = """RISCV NAMES
+"names of thirty-two letters"
+{ 0:x5=1; 0:x6=message_buffer_of_the_first_core; 0:x8=ready_flag_of_the_first_core_abc;
+  1:x6=ready_flag_of_the_first_core_abc; 1:x8=message_buffer_of_the_first_core; }
+ P0          | P1                      ;
+ sw x5,0(x6) | lw x7,0(x6)             ;
+ sw x5,0(x8) | lw x9,0(x8)             ;
+             | amoswap.w x10,x7,(x8)   ;
+exists (1:x7=1 /\\ 1:x9=0)
+"""
+# By test its registers, by hand, and what is said behind the end of its run, which its report has.
+QUESTIONS = {"SB": ([[None, "x7"], [None, "x7"]], "not the end asked for; verdict no"),
+             "MP+yes": ([[None, None], ["x7", "x9"]], "the end asked for; verdict yes"),
+             "LOCK": ([["x7"], ["x7"], ["x7"]], "the expression does not hold; verdict yes"),
+             "SB+forall": ([[None, "x7"], [None, "x7"]], "the expression holds; verdict yes"),
+             "S": ([[None, None], ["x7", None]], "not the end asked for; verdict no")}
+# A store that takes its lease's last time, so that a load there misses it (docs/CHANGING-A-RULE.md).
+RULE, CHANGED = "copy.rts if private else fit(copy.rts + 1)", "copy.rts"
+WRONG_LOAD = "Core 1 loads 0x0 and receives 0, at time 1 (here: wrong value)"
+WRONG = ["--schedule", "seed", "--seed", "23", "--limit", "500", "--lease", "1", "--sets", "1", "--ways", "2",
+         "--bank-sets", "1", "--bank-ways", "1"]
+
+
+def data_of(path):
+    return json.loads(re.search(r'(?s)<script id="data"[^>]*>(.*?)</script>', path.read_text())[1])
+
+
+# A test whose header has braces, and whose block has a line that begins as a condition does. It ends as asked.
+BRACES = """RISCV BRACES
+Orig={a}
+"what of {x}?"
+{ 0:x5=1; 0:x6=x;
+exists=2;
+0:x8=exists; }
+ P0          ;
+ sw x5,0(x6) ;
+ lw x7,0(x8) ;
+\r exists (0:x7=2 /\\
+exists=2)
+"""
+ASKED = {"asked": "what of {x}?", "condition": "exists (0:x7=2 /\\ exists=2)", "registers": [[None, "x7"]],
+         "answer": "0:x7=2 exists=2: the end asked for; verdict yes"}
+
+
+def braces(player, folder):
+    """The question of such a test, from a file and through a pipe."""
+    path = folder / "braces.litmus"
+    path.write_text(BRACES, newline="")
+    for words, text in (([path], b""), (["/dev/stdin"], path.read_bytes())):
+        with (folder / "braces.html").open("wb") as out:
+            subprocess.run([TOP / "tools/page.py", "--player", shlex.quote(player), *words], cwd=TOP, check=False,
+                           stdout=out, input=text)
+        found = data_of(folder / "braces.html")["question"]
+        if found != ASKED:
+            yield f"{words}: {found}, wanted {ASKED}"
+
+
+def questions(player, folder):
+    """The question of litmus tests, and a history that a changed rule made wrong."""
+    for name, (registers, said) in QUESTIONS.items():
+        path = folder / f"{name}.html"
+        written(player, [f"examples/litmus/{name}.litmus"], path)
+        text = (TOP / f"examples/litmus/{name}.litmus").read_text()
+        report = (TOP / f"examples/litmus/{name}.report").read_text()
+        end = re.search(r"(?m)^states 1\n1 (.*)$", report)[1]
+        wanted = {"asked": text.split('"')[1], "registers": registers, "answer": f"{end}: {said}",
+                  "condition": " ".join(re.search(r"(?ms)^(~?exists|forall)\b.*", text)[0].split())}
+        found = data_of(path)["question"]
+        if found != wanted or f"verdict {said.split()[-1]}\n" not in report:
+            yield f"{name}: {found}, wanted {wanted}"
+    written(player, ["examples/litmus/IRIW.litmus"], folder / "IRIW.html")
+    (folder / "names.litmus").write_text(NAMES)
+    (folder / "ring.litmus").write_text(ring(8))
+    (folder / "eight.trace").write_text("".join(f"{core} W {8 * core:#x} 1\n" for core in range(8)) +
+                                        made_trace(8, 4, 48))
+    for name, words in (("names", ["names.litmus"]), ("ring", ["--banks", "2", "ring.litmus"]),
+                        ("eight", ["eight.trace"])):
+        written(player, [*words[:-1], str(folder / words[-1])], folder / f"{name}.html")
+    source = (TOP / "reference/machine.py").read_text()
+    changed = folder / "changed.py"
+    changed.write_text(f"#!{sys.executable}\nimport sys\nsys.path.insert(0, {str(TOP)!r})\n"
+                       "from reference import machine\n"
+                       f"exec(compile({source.replace(RULE, CHANGED)!r}, 'changed', 'exec'), machine.__dict__)\n"
+                       "from reference import play\nsys.exit(play.main(sys.argv[1:]))\n")
+    changed.chmod(0o755)
+    (folder / "two.trace").write_text("0 W 0x0 1\n1 R 0x0\n")
+    text = re.search(r"(?s)\nexample (.*?)```", (TOP / "docs/CHANGING-A-RULE.md").read_text())
+    (folder / "wrong.events").write_text(text[0].strip("`\n") + "\n")
+    status, said = written(str(changed), [str(folder / "wrong.events")], folder / "events.html")
+    shown = data_of(folder / "events.html")
+    if status != 1 or "wrong: wrong value 1" not in said or shown["end"] != "The text ends here." or \
+            [step[2] for step in shown["steps"] if "w" in step[6]] != [WRONG_LOAD]:
+        yield f"a text of a wrong history: status {status}, {said!r}, {shown['end']}"
+    status, said = written(str(changed), [*WRONG, str(folder / "two.trace")], folder / "wrong.html")
+    found = data_of(folder / "wrong.html")
+    marked = [step[1] for step in found["steps"] if "w" in step[6]]
+    if source.count(RULE) != 1 or status != 1 or "wrong: wrong value 1" not in said or found["wrong"] != 1 or \
+            marked != ["completed 1 0 R 0x0 0 1 1"]:
+        yield f"a changed rule: status {status}, {said!r}, {found['wrong']}, {marked}"
+
+
+def counted(player, folder):
+    """Jumps find as many events of each kind as a test's report counts."""
+    for name in ("SB", "LOCK", "RENEW", "STALE"):
+        path = folder / f"{name}.html"
+        written(player, [f"examples/litmus/{name}.litmus"], path)
+        report = (TOP / f"examples/litmus/{name}.report").read_text()
+        told = {words[0]: int(words[1]) for words in map(str.split, report.splitlines()) if words[-1].isdigit()
+                and len(words) == 2}
+        wanted = {"c": told["completed"], "s": told["stale-hits"], "r": told["renewals"],
+                  "l": told["flushes"] + told["write-backs"]}
+        found = {key: sum(key in step[6] for step in data_of(path)["steps"]) for key in wanted}
+        if found != wanted:
+            yield f"{name}: jumps to {found}, wanted {wanted}"
+
+
+# A machine that begins 16 below 2^64 = 18446744073709551616, so at ..1600; the first store takes ..1601. By hand: what
+# the page says after some events, of a number of ten digits or more its last four, of a shorter one all. The swap
+# takes a later time than the store before it, which is of the same line.
+GREAT = "0 W 0x0 18446744073709551557\n0 R 0x0\n0 W 0x8 123456789\n0 S 0x8 1234567890\n"
+
+
+def great_times(player, folder):
+    """Numbers past 2^53, which JavaScript has none for, are texts."""
+    path = folder / "great.html"
+    (folder / "great.trace").write_text(GREAT)
+    written(player, ["--time", "18446744073709551600", str(folder / "great.trace")], path)
+    data = data_of(path)
+    if data["records"][0] != [0, "store", "0x0", "18446744073709551557", None, "18446744073709551601"]:
+        yield f"great times: {data['records'][0]}"
+    if great := re.findall(r"(?<![\w\"])\d{16,}(?!\w)", re.sub(r'"(?:[^"\\]|\\.)*"', '""', json.dumps(data))):
+        yield f"great times: numbers {great}"
+
+
+def bad_players():
+    """Commands that are no player: each is told in one line."""
+    for command, says in (("/bin/cat", "/bin/cat doesn't play texts of events"), ("", "--player: a command is wanted"),
+                          ("'", "--player ': No closing quotation"), ("none", "none: No such file or directory")):
+        ran = subprocess.run([TOP / "tools/page.py", "--player", command, "examples/litmus/SB.litmus"], cwd=TOP,
+                             check=False, capture_output=True, text=True)
+        if (ran.returncode, ran.stdout, ran.stderr.count("\n")) != (2, "", 1) or says not in ran.stderr:
+            yield f"--player {command}: {ran}"
+
+
+def refusals(player, folder):
+    """What is answered in one line, and what the page says of a run that isn't all done."""
+    yield from bad_players()
+    (folder / "bad.events").write_text("example x\nmachine cores 99 : opened\nissue 0 R 0x0 : issued\n")
+    (folder / "huge.trace").write_text("".join(f"{n % 8} W 0x0 {n}\n" for n in range(900)))
+    for words, status, says in (([folder / "huge.trace"], 2, "a page shows 5,000 at most"),
+                                (["README.md"], 2, "README.md: line 3: 4 BadCore"),
+                                (["no.trace"], 2, "no.trace: No such file or directory"),
+                                ([folder / "bad.events"], 2, "`machine cores 99` is refused BadConfig"),
+                                (["--time", "-1", "examples/traces/PAST.trace"], 2, "configuration: --time -1: 0 to"),
+                                (["--limit", "0", "examples/traces/PAST.trace"], 2, "configuration: --limit 0: 1 to"),
+                                (["--limit", "4", "examples/traces/PAST.trace"], 1, "The run was cut")):
+        came, said = written(player, list(map(str, words)), folder / "refused.html")
+        if came != status or says not in said or said.count("\n") != 1:
+            yield f"{words[-1]}: status {came}, {said!r}"
+    if "The run was cut" not in (folder / "refused.html").read_text():
+        yield "a page doesn't say that its run was cut"

@@ -58,14 +58,6 @@ WALKS_AT_MOST = 2
 NAMED_AT_MOST = 10
 
 
-def names_of_crates():
-    """The crates of crates.txt, in its order."""
-    for line in (TOP / "crates.txt").read_text(encoding="utf-8").splitlines():
-        line = line.split("#")[0].strip()
-        if line:
-            yield line.split(":")[0].split()[0]
-
-
 def first_words(crate):
     """The first sentence of a crate's root file."""
     root = next(p for p in (crate / "src/lib.rt", crate / "src/main.rt") if p.exists())

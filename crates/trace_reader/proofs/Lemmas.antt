@@ -6,3 +6,5 @@ pub use Rattle.trace_reader.proofs.ByCore.{bycore-push}
 pub use Rattle.trace_reader.proofs.StreamLines.{yields-more, yields-none}
 pub use Rattle.trace_reader.proofs.QueuedSteps.{known-more, steps-append, cores-append, named-append}
 pub use Rattle.trace_reader.proofs.QueuedSteps.{none-taken, more-taken}
+-- A text of the grammar is read as the records that it stands for.
+pub use Rattle.trace_reader.proofs.RecordAnswers.{record-reads}

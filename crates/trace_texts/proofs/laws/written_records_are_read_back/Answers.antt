@@ -1,4 +1,4 @@
-use Rattle.trace_reader.proofs.RecordAnswers.{record-reads}
+use Rattle.trace_reader.proofs.Lemmas.{record-reads}
 use Rattle.trace_texts.specs.Records.{records_text}
 use Rattle.trace_texts.proofs.ReadBack.{text-stands}
 use Rattle.trace_texts.proofs.laws.written_records_are_read_back.Goals as goal

@@ -258,9 +258,8 @@ def try_histories(bench, case):
 def a_batch(draw):
     """Runs of a test, cut into parts, and the numbers of the parts that are given to merge.py."""
     states = [(f"0:x7={value}", draw.once_in(2)) for value in range(draw.number(1, 4))]
-    sums = [0, 1, 5, 2 ** 128 - 2]
     runs = draw.several(1, 9, lambda: (draw.of(ENDS) if draw.once_in(3) else "all-done", draw.of(states),
-                                        [draw.of(sums[:3 + draw.once_in(9)]) for _ in range(6)]))
+                                        [draw.of([0, 1, 5, *[2 ** 128 - 2] * draw.once_in(9)]) for _ in range(6)]))
     cuts = sorted({0, len(runs), *draw.several(0, 5, lambda: draw.number(0, len(runs)))})
     parts = [runs[start:end] for start, end in zip(cuts, cuts[1:])]
     given = list(range(len(parts)))
@@ -324,13 +323,12 @@ def a_range(draw):
 
 
 def try_ranges(bench, case):
-    path = TOP / f"examples/litmus/{case.test}.litmus"
+    path = str(TOP / f"examples/litmus/{case.test}.litmus")
     wanted = bench.program("litmus", "--schedule", "seed", "--seed", str(case.first), "--runs", str(case.runs),
-                           *case.options, str(path))
-    range_of = [str(case.first), str(case.runs), str(path), *case.options]
+                           *case.options, path)
 
     def told(*words):
-        with mock.patch.object(sys, "argv", ["seeds.py", *words, *range_of]):
+        with mock.patch.object(sys, "argv", ["seeds.py", *words, str(case.first), str(case.runs), path, *case.options]):
             return printed(lambda _: seeds.main())
 
     same(told("--parts", str(case.parts), "--jobs", "2"), wanted, "seeds.py, all parts")
@@ -360,7 +358,7 @@ class Thread:
         self.known = {register: self.opening.get(register, 0) for register in VALUES}
         self.plain, self.cells, self.label = [], [], None
         for _ in range(draw.number(0, 4)):
-            self.add(draw.of(["load", "store", "load", "store", "set", "swap", "fence", "branch"]))
+            self.add(draw.of(["load", "store", "swap", "load", "store", "set", "swap", "fence", "branch"]))
         if self.label:
             self.cells.append(f"{self.label}:")
 
@@ -512,7 +510,7 @@ def a_test(draw):
     threads = [Thread(draw, thread, width, locations) for thread in range(draw.number(1, 3))]
     memory = {location: draw.number(0, 3) for location in locations}
     names = [f"{thread.thread}:{register}" for thread in threads for register in VALUES] + list(locations)
-    kind, trees = draw.of(["exists", "~exists", "forall"]), [an_expression(draw, names)]
+    kind, trees = draw.of(["exists", "~exists", "forall"]), [an_expression(draw, names + 3 * list(locations))]
     trees += [an_expression(draw, names, 1)] * (kind != "forall" and draw.once_in(3))
     items = [f"{location}={value}" for location, value in memory.items()]
     items += [f"{thread.thread}:{register}={value}" for thread in threads
@@ -565,6 +563,7 @@ TIMES = {"ShReq": ("pts",), **dict.fromkeys(("ShRep", "ExRep", "FlushRep", "WbRe
          **dict.fromkeys(("RenewRep", "UpgradeRep", "WbReq"), ("rts",))}
 TITLE = re.compile(r"core (\d+): (\w+) of (0x\w+)(?:, writes (\d+))?(?:, receives (\d+))?; time (\d+), number (\d+)"
                    r"(, stale hit)?")
+NODES = {"b": "bank", "c": "core", "d": "DRAM"}
 
 
 class Noted(Run):
@@ -577,6 +576,7 @@ class Noted(Run):
     def make(self, *event):
         machine, name, sent = self.machine, event[0], self.machine.sent
         message = machine.flight.get(event[1]) if name == "Deliver" else None
+        lanes = [f"{NODES[part]} {index}" for part, index in machine.nodes(message)] if message else []
         line = machine.line_at(event[1]) if name == "Attempt" else event[2] if name.startswith("Evict") else None
         answer = super().make(*event)
         happened = None
@@ -591,7 +591,7 @@ class Noted(Run):
         elif answer in ("Evicted", "Recalled"):
             happened = "evict", "core" if name == "EvictCache" else "bank", event[1]
         self.events.append(SimpleNamespace(
-            turn=self.turns, line=line, happened=happened, message=event[1] if message else None,
+            turn=self.turns, line=line, happened=happened, message=event[1] if message else None, lanes=lanes,
             sent=range(sent, machine.sent), cores=[(core.pts, {
                 copy.line: (f"{copy.state[0]} {copy.wts}..{copy.rts}", list(copy.words))
                 for copies in core.sets.values() for copy in copies}) for core in machine.cores]))
@@ -632,7 +632,7 @@ def in_chart(text):
         message, kind, carried = re.fullmatch(r"(\d+): (\w+)(.*)", label).groups()
         cores = [int(lane.split()[1]) for lane in (start, end) if lane.startswith("core")]
         times = tuple(map(int, re.findall(r"\d+", carried)))
-        rows += [(first, 0, ("first", int(message))), (sent, 2, ("sent", int(message))),
+        rows += [(first, 0, ("first", int(message), start, end)), (sent, 2, ("sent", int(message))),
                  (drawn.dotted.get((end, first), first), 1, ("took", kind, *(cores or [None]), times), int(message))]
     for said, element in texts[len(drawn.arrows):]:
         part, index = next(lane for lane, x in lanes.items() if x == float(element.get("x")) + 10).split()
@@ -652,7 +652,7 @@ def in_run(events):
     for event in events:
         if event.message is not None and event.message not in met:
             met.add(event.message)
-            yield "first", event.message
+            yield "first", event.message, *event.lanes
         if event.happened:
             yield event.happened
         yield from (("sent", message) for message in event.sent if message in delivered)

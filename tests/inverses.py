@@ -111,10 +111,10 @@ class Given(NamedTuple):
 
 def trace_line(draw, form, is_whole):
     """A line of a trace. An advance of its own doesn't look like those that are added."""
-    if draw.once_in(5):
-        text = draw.of(["", "# 0 R 0x0", "3  A", "2 A # its own"][:2 * form])
+    core, kind, blank = draw.number(0, 2), draw.of(KINDS), draw.of([" ", "\t", "  "])
+    if draw.once_in(4):
+        text = draw.of(["", "# 0 R 0x0", f"{core}  A", f"{core} A # its own"][:2 * form])
         return Given(text, [text])
-    core, kind, blank = draw.number(0, 3), draw.of(KINDS), draw.of([" ", "\t", "  "])
     first, size = (draw.number(0, 40), draw.number(0, 20)) if is_whole else (8 * draw.number(0, 3), 0)
     value = None if kind == "load" else draw.number(0, 9)
     front = draw.of(["", " "]) + draw.of([str(core), f"0{core}"]) + blank + LETTER[kind] + blank
@@ -138,7 +138,7 @@ def try_advances(bench, case):
     status, out, error = printed(advance.main, *["--whole-words"] * case.is_whole, case.after, path)
     same((status, error), (0, ""), "advance.py")
     new = out.splitlines()
-    left = [line for line in new if not re.fullmatch("[0-3] A", line)]
+    left = [line for line in new if not re.fullmatch("[0-2] A", line)]
     if case.form == 1 and case.after and any(line.core is not None for line in case.lines):
         expect("trace 2" in left, f"no form is named: {out}")
         left.remove("trace 2")
@@ -510,8 +510,8 @@ def a_test(draw):
     threads = [Thread(draw, thread, width, locations) for thread in range(draw.number(1, 3))]
     memory = {location: draw.number(0, 3) for location in locations}
     names = [f"{thread.thread}:{register}" for thread in threads for register in VALUES] + list(locations)
-    kind, trees = draw.of(["exists", "~exists", "forall"]), [an_expression(draw, names + 3 * list(locations))]
-    trees += [an_expression(draw, names, 1)] * (kind != "forall" and draw.once_in(3))
+    kind, trees = draw.of(["exists", "~exists", "forall"]), [an_expression(draw, names + 2 * list(locations))]
+    trees += [an_expression(draw, names, 1)] * (kind != "forall" and draw.once_in(2))
     items = [f"{location}={value}" for location, value in memory.items()]
     items += [f"{thread.thread}:{register}={value}" for thread in threads
               for register, value in [*((base, location) for location, base in thread.bases.items()),
@@ -725,9 +725,9 @@ def try_timeline(bench, case, path, text):
     same(found, told, "the points of the picture")
 
 
-PROPERTIES = [("advances", a_trace, try_advances, 120), ("histories", a_history, try_histories, 60),
+PROPERTIES = [("advances", a_trace, try_advances, 150), ("histories", a_history, try_histories, 60),
               ("reports", a_batch, try_reports, 200), ("ranges of seeds", a_range, try_ranges, 12),
-              ("tests of herd7", a_test, try_tests, 250), ("runs that are shown", a_run, try_runs, 120)]
+              ("tests of herd7", a_test, try_tests, 450), ("runs that are shown", a_run, try_runs, 120)]
 
 
 class Bench:

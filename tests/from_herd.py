@@ -36,6 +36,7 @@ CELLS = [("lwu x7,0(x6)", LOAD), ("lw.aq.rl t2 , ( x6 )", LOAD), ("sw.rl x5,0(t1
          ("ori x7,x5,2", "li x7,3"), ("mv x7,x5", "li x7,1"),
          ("addi x7,x5,5", "li x7,6"), ("xori x7,x5,3", "li x7,2"), ("andi x7,x5,3", "li x7,1"),
          ("li x9,3|sub x7,x9,x5", "li x7,2"), ("lwu x7,0(x6)|mv x9,x5", "li x9,1"), ("xor x7,x5,x5", "li x7,0"),
+         ("lw x7,0(x6)|xor x9,x7,t2", "li x9,0"), ("lw x7,0(x6)|sub x9,t2,x7", "li x9,0"),
          ("andi x7,x5,0", "li x7,0"), ("lw x0,0(x6)|add x7,x0,x5", "li x7,1"), ("add x7,x6,x0", None),
          ("bne x5,x0,L0", None), ("blt x0,x5,L0", None), ("bgez x5,L0", None), ("jal x0,L0", None), ("j L0", None),
          ("L0: sw x5,0(x6)", STORE)]

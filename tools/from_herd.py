@@ -331,7 +331,8 @@ class Column:
             return values[0] if len(values) == 1 and (name == "mv") == (sources[0] in REGISTERS) else None
         if name not in COMPUTED or len(values) != 2:
             return None
-        if name in ("xor", "sub") and sources[0] == sources[1] or name == "and" and 0 in values:
+        is_one_twice = REGISTERS[sources[0]] == REGISTERS.get(sources[1])
+        if name in ("xor", "sub") and is_one_twice or name == "and" and 0 in values:
             return 0
         if all(isinstance(value, int) for value in values):
             return COMPUTED[name](*values)

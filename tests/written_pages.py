@@ -169,7 +169,7 @@ def great_times(player, folder):
 
 
 def bad_players():
-    """Commands that are no player: each is told in one line."""
+    """Commands that are no player: each is refused in one line."""
     for command, says in (("/bin/cat", "/bin/cat doesn't play texts of events"), ("", "--player: a command is wanted"),
                           ("'", "--player ': No closing quotation"), ("none", "none: No such file or directory")):
         ran = subprocess.run([TOP / "tools/page.py", "--player", command, "examples/litmus/SB.litmus"], cwd=TOP,

@@ -292,7 +292,7 @@ def refusals(tester):
     tester.refused("none.trace: No such file or directory", *played, "none.trace")
     tester.refused("bad configuration", *played, "--line-words", "3", str(trace))
     tester.refused("has the cores 0 to 0", *played, "--cores", "1", str(trace))
-    tester.refused("the player failed, with status 3", *played, "--limit", "-1", str(trace))
+    tester.refused("bad configuration: --limit -1: 1 to 4294967295", *played, "--limit", "-1", str(trace))
     tester.refused("no-player: No such file or directory", "--player", "no-player", str(trace))
     tester.refused("the player failed, with status 1", "--player", "false", str(trace))
     tester.refused("invalid choice: 'threads'", *played, "--schedule", "threads", str(trace))

@@ -28,7 +28,6 @@ from hashlib import sha256
 from pathlib import Path
 from types import SimpleNamespace
 from typing import NamedTuple
-from unittest import mock
 
 try:
     import hypothesis
@@ -328,8 +327,7 @@ def try_ranges(bench, case):
                            *case.options, path)
 
     def told(*words):
-        with mock.patch.object(sys, "argv", ["seeds.py", *words, str(case.first), str(case.runs), path, *case.options]):
-            return printed(lambda _: seeds.main())
+        return printed(seeds.main, *words, str(case.first), str(case.runs), path, *case.options)
 
     same(told("--parts", str(case.parts), "--jobs", "2"), wanted, "seeds.py, all parts")
     with tempfile.TemporaryDirectory() as folder:
@@ -692,15 +690,17 @@ def try_runs(bench, case):
     path = bench.file("given.trace", "trace 2\n" + "".join(f"{line}\n" for line in case.lines))
     options = oracle.words().parse_args(["trace", *case.options, path])
     trace = Trace(Path(path).read_bytes())
-    run, _ = drive(options, trace.programs(), {}, options.seed, None, Noted)
+    run, end = drive(options, trace.programs(), {}, options.seed, None, Noted)
+    cut = f"{Path(sys.argv[0]).name}: {path}: end {end}: this is the run's beginning (docs/ENDING.md says why)\n"
+    ended = (0, "") if end == "all-done" else (1, cut)
     status, out, error = printed(chart.main, *case.options, path)
-    same((status, error), (0, ""), "chart.py")
+    same((status, error), ended, "chart.py")
     taken = {event.message for event in run.events if event.happened and event.happened[0] == "took"}
     shown = [row[2] for row in in_chart(out) if row[2][0] != "took" or row[3] in taken]
     same(shown, list(in_run(run.events)), "the chart's events")
     for word in case.words:
         status, out, error = printed(steps.main, f"{8 * word:#x}", *case.options, path)
-        same((status, error), (0, ""), "steps.py")
+        same((status, error), ended, "steps.py")
         line, index = word // case.width, word % case.width
         wanted = [(event.turn, event.happened, [core_cell(core, line, index) for core in event.cores])
                   for event in run.events if event.happened and (event.line == line or event.happened[0] == "advance")]
@@ -708,16 +708,16 @@ def try_runs(bench, case):
     status, out, error = bench.program("trace", "--records", *case.options, path)
     same((status in (0, 1), error), (True, ""), "the program")
     if out:
-        try_timeline(bench, case, path, out)
+        try_timeline(bench, case, path, out, ended)
 
 
-def try_timeline(bench, case, path, text):
+def try_timeline(bench, case, path, text, ended):
     """The picture of a trace is that of its records, and has each record."""
     records = read_records(text.encode())
     drawn = printed(timeline.main, *case.options, path)
-    same((drawn[0], drawn[2]), (0, ""), "timeline.py")
+    same((drawn[0], drawn[2]), ended, "timeline.py")
     backwards = bench.file("given.records", "".join(reversed(text.splitlines(True))))
-    same(printed(timeline.main, backwards), drawn, "the picture of the records")
+    same(printed(timeline.main, backwards), (0, drawn[1], ""), "the picture of the records")
     found = [TITLE.fullmatch(title.text).groups() for title in xml.fromstring(drawn[1]).iter(f"{SVG}title")]
     told = [(str(one.core), one.kind, f"{8 * one.word:#x}", *(None if part is None else str(part) for part in (
         one.value, one.received)), str(one.time), str(one.number), ", stale hit" if is_past(records, one) else None)

@@ -17,3 +17,5 @@ pub mod script;
 mod turn_counts;
 #[cfg(test)]
 mod turns;
+#[cfg(test)]
+mod wholes;

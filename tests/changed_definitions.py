@@ -33,7 +33,7 @@ from queue import SimpleQueue
 TOP = Path(__file__).resolve().parent.parent
 sys.path.insert(0, str(TOP))
 from tests.changed_rules import ROWS, UNSTATED  # noqa: E402
-from tests.rooms import committed  # noqa: E402
+from tests.rooms import calm, committed  # noqa: E402
 
 PARTS = ["reference", "tests", "tools", "maintain", "examples", "docs/TRUST.md", "crates/play_events/data",
          "crates/play_seats/data", "crates/tardis/data"]
@@ -51,10 +51,13 @@ class Copy:
     def asked(self, which, file="", *more):
         words = [sys.executable, "-O", "-B", str(self.top / "tests/committed_texts.py"), f"--which={which}",
                  f"--changed={file.replace('/', '.').removesuffix('.py')}", *more]
-        done = subprocess.run(words, capture_output=True, text=True, check=False, start_new_session=True)
-        if done.returncode:
-            raise RuntimeError(f"{file}: {done.stderr[-2000:]}")
-        return json.loads(done.stdout)
+        with subprocess.Popen(words, stdout=subprocess.PIPE, stderr=subprocess.PIPE, text=True,
+                              start_new_session=True) as running:
+            calm(running.pid)
+            out, error = running.communicate()
+        if running.returncode:
+            raise RuntimeError(f"{file}: {error[-2000:]}")
+        return json.loads(out)
 
     def refusing(self, row, has_all):
         """The texts that refuse a row's change, by kind; the long ones are asked if no other does."""

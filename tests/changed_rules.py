@@ -224,6 +224,8 @@ ROWS = rows_of("machine", [
     (THREADS, "has_moved of thread_driver", 'MOVED = ("delivered", "dropped", "started")',
      'MOVED = ("delivered", "started")', "a dropped message is no progress"),
     (THREADS, "InARow of thread_driver", "IN_A_ROW = 16", "IN_A_ROW = 15", "15 turns in a row"),
+    (THREADS, "is_followed of thread_driver", "if not self.make_turn(number) or self",
+     "if self.make_turn(number) is None or self", "a turn without progress is followed"),
     (THREADS, "RoomMadeIf of thread_driver", "if self.fair and not moved:", "if self.fair:", "also after progress"),
 ]) + rows_of("schedules", [
     (REPORTS, "is_progress of schedules", '("Waiting", "Held", "Busy",', '("Waiting", "Busy",',

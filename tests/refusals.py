@@ -146,7 +146,7 @@ def said(ran):
 
 def runs():
     """Commands that run a machine, each with what it prints."""
-    for text in (LITMUS / "SB.litmus", LITMUS / "IRIW.litmus", LITMUS / "SB+forall.litmus"):
+    for text in (LITMUS / "SB.litmus", LITMUS / "IRIW.litmus", LITMUS / "SB+forall.litmus", LITMUS / "SWAP.litmus"):
         yield text.name, ["litmus", text], text.with_suffix(".report").read_text()
     words = ["litmus", "--schedule", "seed", "--runs", "3", LITMUS / "SB.litmus"]
     yield "three seeds of SB", words, oracle.run(oracle.words().parse_args([*map(str, words)]))[0]

@@ -38,6 +38,8 @@ TITLES = ["core 0: store of 0x8, writes 7; time 2, number 0",
           "core 1: load of 0x8, receives 0; time 1, number 1, stale hit",
           "core 2: swap of 0x10, writes 5, receives 3; time 3, number 2"]
 TEXTS = ["0x8 := 7", "0x8 0", "0x10 := 5 3"]
+# Numbers go from 170 to 910, times from 470 up to 70; a square of 9 begins 4.5 before its middle.
+POINTS = [("165.5", "265.5"), ("540.0", "470.0"), ("905.5", "65.5")]
 
 
 class Chart:
@@ -101,6 +103,9 @@ def timelines(tester, path):
     tester.expect(texts == TEXTS, f"texts: {texts}")
     shapes = [[part.tag.removeprefix(SVG) for part in group][1:] for group in root.iter(f"{SVG}g")]
     tester.expect(shapes == [["rect"], ["circle", "path"], ["rect"]], f"shapes: {shapes}")
+    points = [(group[1].get("cx") or group[1].get("x"), group[1].get("cy") or group[1].get("y"))
+              for group in root.iter(f"{SVG}g")]
+    tester.expect(points == POINTS, f"points: {points}")
     turned = [part.get("transform") is not None for group in root.iter(f"{SVG}g") for part in group.iter(f"{SVG}rect")]
     tester.expect(turned == [False, True], f"turned: {turned}")
 

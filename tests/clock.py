@@ -9,6 +9,7 @@ import sys
 import tempfile
 from pathlib import Path
 from types import SimpleNamespace
+from unittest import mock
 
 sys.path.insert(0, str(Path(__file__).resolve().parent.parent))
 from reference import order  # noqa: E402
@@ -89,6 +90,11 @@ def tables(tester, path):
     machine = Counts(Stuck(options_with(cores=1), 1, {}))
     run = clock.Clocked(machine, [Steps([("load", 0, None)])], SimpleNamespace(hop=1, dram=1, hit=1))
     tester.expect(run.go() == "starved", "a run that can't end")
+    # A load that hits makes an event of its core, and completes in it: 30 of them are no long wait.
+    run = clock.Clocked(Counts(Machine(options_with(cores=1), 1, {})), [Steps([("load", 0, None)] * 30)],
+                        SimpleNamespace(hop=1, dram=1, hit=1))
+    with mock.patch.object(clock, "LONG", 20):
+        tester.expect(run.go() == "all-done", "a run of many events, of which few in a row complete nothing")
     path.write_text("0 R 0x0\n")
     _, out, _ = tester.run("--lease", "1,2", "--machine", "msi,tardis", "--hop", "2", str(path))
     got = [line.split()[:2] + line.split()[-1:] for line in out.splitlines()[1:]]

@@ -25,7 +25,6 @@ FOLDERS = ("tools", "reference", "python")
 # Scripts that run no Python that users run, or build a library.
 LEFT_OUT = re.compile(r"costs|refusals|slurm|embed|recursion|sentences|documents|literals|memory|grammar|header|reached"
                       r"|mutants")
-LIMITS = "ulimit -v 16000000; ulimit -f 8000000;"  # what a process takes of memory, and writes to a file
 LIBRARY = Path("/usr/lib/python3/dist-packages/coverage")
 STARTS = "import coverage\ncoverage.process_startup()\n"
 SETTINGS = """[run]
@@ -38,6 +37,11 @@ include = {}
 disable_warnings = no-data-collected, module-not-imported, module-not-measured, couldnt-parse, include-ignored,
     already-imported
 """
+
+
+def limits(script):
+    """What a process may take of memory, and write to a file. A browser takes more addresses than any machine has."""
+    return ("" if "tests/page.py" in script else "ulimit -v 16000000; ") + "ulimit -f 8000000;"
 
 
 class Watched(Room):
@@ -64,7 +68,7 @@ class Watched(Room):
 
     def came_by(self, script, seconds=1800):
         """Why the command doesn't pass, and by file from which line to which it goes."""
-        why = self.fails(f"{LIMITS} {script}", seconds, PYTHONPATH=str(self.notes),
+        why = self.fails(f"{limits(script)} {script}", seconds, PYTHONPATH=str(self.notes),
                          COVERAGE_PROCESS_START=str(self.notes / "settings"))
         arcs = {}
         for path in self.notes.glob("data.*"):

@@ -10,7 +10,7 @@ slice left out, two arguments exchanged, None returned, a comprehension without 
 lists try it in a copy of what is committed: those that come by its lines (tests/covered.py says which, by Debian's
 python3-coverage), first those that take little for each mutant that they refuse. It is refused where one fails. A
 process of a mutant that takes ten seconds more than three times as long as the script without it is stopped, and so is
-one that takes 8 GB. PROGRAM, EVENTS and SEATS are the built programs.
+one that takes 16 GB. PROGRAM, EVENTS and SEATS are the built programs.
 
 What was tried is kept in a file, so a run that was interrupted goes on. After another commit what survived is tried
 again, and what was refused only where its own file changed. The survivors are printed, and those that no script comes
@@ -141,7 +141,7 @@ class Tools(covered.Watched):
         os.utime(place, (self.written, self.written))  # Python takes what it compiled before for a file of equal time
         try:
             return asking.first(key, times, lambda script: self.fails(
-                f"ulimit -t {max(1, round(10 + 3 * times[script]))}; {covered.LIMITS} {script}",
+                f"ulimit -t {max(1, round(10 + 3 * times[script]))}; {covered.limits(script)} {script}",
                 60 + 10 * times[script]))
         finally:
             place.write_text(before, encoding="utf-8")

@@ -145,12 +145,13 @@ class Lines:
         return self.trace
 
     def traced(self, step, event):
-        """A step of a machine."""
+        """A step of a machine. What traced the caller, as a debugger does, goes on behind it."""
+        before = sys.gettrace()
         sys.settrace(self.trace)
         try:
             return step(event)
         finally:
-            sys.settrace(None)
+            sys.settrace(before)
 
     def never(self, module):
         """Those of the machine's methods that never ran."""

@@ -20,6 +20,7 @@ def installed():
 
 class Browser:
     """One page. Files are named by their paths."""
+    FLAGS = ()  # more of the program's options
 
     def __init__(self, program):
         self.profile = tempfile.TemporaryDirectory()
@@ -34,8 +35,9 @@ class Browser:
 
         self.process = subprocess.Popen(
             [program, "--headless", "--no-sandbox", "--disable-gpu", "--disable-dev-shm-usage", "--hide-scrollbars",
-             "--remote-debugging-pipe", f"--user-data-dir={self.profile.name}", "about:blank"], close_fds=False,
-            preexec_fn=place, stdin=subprocess.DEVNULL, stdout=subprocess.DEVNULL, stderr=subprocess.DEVNULL)
+             "--remote-debugging-pipe", f"--user-data-dir={self.profile.name}", *self.FLAGS, "about:blank"],
+            close_fds=False, preexec_fn=place, stdin=subprocess.DEVNULL, stdout=subprocess.DEVNULL,
+            stderr=subprocess.DEVNULL)
         for end in (ours[0], theirs[1], *high):
             os.close(end)
         self.out, self.into = os.fdopen(ours[1], "wb", 0), os.fdopen(theirs[0], "rb")

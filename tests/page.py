@@ -11,6 +11,8 @@ and tries only what needs none.
 
     tests/page.py PLAYER --pictures FOLDER    writes the pictures of README.md, docs/TUTORIAL.md and docs/TEACHING.md into
                                               FOLDER, too
+    tests/page.py PLAYER --coverage           says which blocks of tools/shown/page.js no page ran, but for those of
+                                              tests/covered.table (tests/page_coverage.py)
 """
 import json
 import re
@@ -22,6 +24,8 @@ from pathlib import Path
 TOP = Path(__file__).resolve().parent.parent
 sys.path.insert(0, str(TOP))
 from tests.browser import Browser, installed  # noqa: E402
+from tests.page_coverage import Watched  # noqa: E402
+from tests.used_pages import used  # noqa: E402
 from tests.written_pages import (braces, counted, data_of, great_times, made_trace, questions,  # noqa: E402
                                  refusals, written)
 
@@ -612,6 +616,7 @@ def in_browser(browser, player, pages, folder):
     yield from narrow(browser, folder)
     yield from jumped(browser, player, folder)
     yield from shortened(browser, folder)
+    yield from used(Compared(CASES["the past"]), browser, player, pages["the past"])
     browser.open(f"{folder / 'long.html'}#3000")
     yield from [f"the long page: {fault} is cut" for fault in [cut(browser)] if fault]
     took = browser.value(TIMED)
@@ -620,7 +625,8 @@ def in_browser(browser, player, pages, folder):
 
 
 def main(given):
-    if len(given) not in (1, 3) or given[0] in ("-h", "--help"):
+    is_watched = given[1:] == ["--coverage"]
+    if len(given) not in (1, 3) and not is_watched or given[0] in ("-h", "--help"):
         return print(__doc__)
     player, faults = str(Path(given[0]).resolve()), []
     with tempfile.TemporaryDirectory() as name:
@@ -641,7 +647,7 @@ def main(given):
         faults += [f"{name}: {data_of(pages[name])['how']}, wanted {how}" for name, how in HOWS.items()
                    if data_of(pages[name])["how"] != how]
         if installed():
-            browser = Browser(installed())
+            browser = (Watched if is_watched else Browser)(installed())
             faults += in_browser(browser, player, pages, folder)
             if given[1:2] == ["--pictures"]:
                 browser.open(f"{pages['the past']}#stale")
@@ -653,7 +659,8 @@ def main(given):
             print("page.py: no Chromium is installed (Debian's package chromium), so that no page was opened")
     shows = "show what the player says" if installed() else "are written"
     print("\n".join(faults) or f"{len(CASES)} pages {shows}")
-    return int(bool(faults))
+    left = browser.judged() if is_watched and installed() else 0
+    return int(bool(faults or left))
 
 
 if __name__ == "__main__":

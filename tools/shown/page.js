@@ -54,7 +54,7 @@ function behind(text, word) {
 
 // A time in a few letters: of those near the end of 64 bits the last digits.
 const brief = time => String(time).length > 9 ? `…${String(time).slice(-4)}` : time;
-const wordsOf = text => (/ words (.*)$/.exec(text) || ["", ""])[1].split(" ");
+const wordsOf = text => / words (.*)$/.exec(text)[1].split(" ");
 const asSeen = name => `data-name="${name}" data-seen="${escaped(view[name])}"`;
 const isNew = name => at > 0 && name in run.steps[at - 1][5] ? " new" : "";
 const lineName = line => run.words === 1 ? run.names[line][0] : line;

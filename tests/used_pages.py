@@ -55,9 +55,12 @@ def pressed(compared, browser, path):
     for key, place in (("Home", 0), ("PageDown", 1), ("PageUp", 0)):
         browser.press(key)
         compared.same(f"after {key}", browser.value("at"), place)
-    for says, press in (("pause", lambda: click(browser, "#play")), ("play", lambda: browser.press(" "))):
-        press()
+    click(browser, "#next")
+    browser.press(" ")  # of the page, not of the button
+    for says in ("pause", "play"):
         compared.same("playing", browser.value(WHERE)[2], says)
+        click(browser, "#play")
+    browser.press(" ")
     browser.value("go(27) || document.getElementById('next').focus()")
     browser.press(" ")
     compared.same("space on a button", browser.value(WHERE),
@@ -93,10 +96,11 @@ def by_itself(compared, browser, path):
         browser.value(f"location.hash = '{address}'")
         compared.same(address, becomes(browser, f"at === {place}"), True)
     browser.press("q")
+    browser.value("(addresses => history.replaceState = (...of) => addresses.push(of[2]))(window.came = [])")
     browser.press(" ")
-    compared.same("it plays", [browser.value(word), becomes(browser, "at > 24")], ["pause", True])
-    compared.same("it asks", [becomes(browser, "isAsked"), browser.value(word), browser.value("at")],
-                  [True, "play", 26])
+    compared.same("it plays", browser.value(word), "pause")
+    compared.same("it asks", [becomes(browser, "isAsked"), browser.value(word), browser.value("window.came.join()")],
+                  [True, "play", "#25,#26,#26"])
     browser.press("q")
     browser.press("End")
     browser.press("ArrowUp")
@@ -175,6 +179,55 @@ def named(compared, browser, player, folder):
     browser.open(f"{folder / 'eleven.html'}#9999")
     compared.same("names of cores that don't fill their fields", browser.value(UNFILLED), "")
 
+# By hand, of the page of the stale hit, whose times go from 0 to 7: core 0's lease of 0x8 is to 3, three sevenths of
+# the scale. The only stale hit is event 50, the only recall event 57. Nothing is renewed or evicted.
+BAR = """(copy => [copy.querySelector("b").title, ...["i.left", "i.width", "u.left"].map(of => of.split(".")).map(
+  ([part, of]) => copy.querySelector(part).style[of])].join())(document.querySelector("#core-0 .copy"))"""
+WAITS = "document.querySelector('.message.waits').textContent.replace(/\\s+/g, ' ').trim()"
+JUMPS = """[...document.querySelectorAll("#jumps button")].map(one =>
+  `${one.className}${one.disabled ? "-" : ""}`).join()"""
+CROSSES = "document.querySelectorAll('.cross').length"
+DETAILS = ((27, BAR, "0x8 = 0,0%,42.8%,0%"), (5, WAITS, "ShReq 0x8 pts 0 version none; waits"),
+           (49, JUMPS, "c,s,r behind-,l,e behind-"), (51, JUMPS, "c,s behind,r behind-,l,e behind-"),
+           (49, CROSSES, 0), (50, CROSSES, 1))
+LENGTHS = """RISCV LENGTHS
+{ 0:x5=1; 0:x6=twelve_lette; 0:x8=thirteen_lett; }
+ P0          ;
+ sw x5,0(x6) ;
+ sw x5,0(x8) ;
+exists (twelve_lette=1)
+"""
+WIDE = "[...document.querySelectorAll('.copy')].map(one => one.classList.contains('wide')).join()"
+SHORT = "[...document.querySelectorAll('#ties > g > g:last-child tspan')].map(one => one.textContent).join(' ')"
+
+
+def without_wait(data):
+    """The run of the stale hit, whose last load comes at once behind that."""
+    of = json.loads(data)
+    del of["steps"][50:67]
+    return json.dumps(of)
+
+
+def details(compared, browser, player, path):
+    """A bar, a message's text, what is ahead, a crossing; names that are just short and just long; in a quiz a stale
+    hit behind which a load is asked at once."""
+    browser.open(path)
+    for at, of, wanted in DETAILS:
+        browser.value(f"go({at})")
+        compared.same(f"{of} at event {at}", browser.value(of), wanted)
+    (path.parent / "lengths.litmus").write_text(LENGTHS)
+    written(player, [str(path.parent / "lengths.litmus")], path.parent / "lengths.html")
+    browser.open(f"{path.parent / 'lengths.html'}#9999")
+    compared.same("wide copies", browser.value(WIDE), "false,true")
+    compared.same("names in boxes", browser.value(SHORT), "store 1 to twelve_lette store 1 to thirtee…lett")
+    altered(path, path.parent / "at-once.html", without_wait)
+    browser.open(path.parent / "at-once.html")
+    past = []
+    for key in ("s", "q", "ArrowDown"):
+        browser.press(key)
+        past.append(browser.value("[isAsked, document.getElementById('said').className].join()"))
+    compared.same("marked as past", past, ["false,past", "false,past", "true,"])
+
 
 def used(compared, browser, player, path):
     """What differs, on the page of the stale hit and others."""
@@ -182,4 +235,5 @@ def used(compared, browser, player, path):
     by_itself(compared, browser, path)
     scarce(compared, browser, player, path.parent)
     named(compared, browser, player, path.parent)
+    details(compared, browser, player, path)
     return compared.faults

@@ -6,8 +6,8 @@ records and look-ups that PLAYER, a built play_events, answers to texts that wer
 event the part that is marked as acting. What the page says of an event of each kind is in page.table, by hand, too. The
 script tries the slider, the jumps, great numbers and what is refused, and prints the time that a key takes in a page of
 thousands of events. It compares a litmus test's question, registers and verdict with the test and its report. A changed
-rule's history must be marked as wrong. Nothing may be cut from 360 pixels on. If no Chromium is installed, it says so,
-and tries only what needs none.
+rule's history must be marked as wrong. Nothing may be cut from 360 pixels on. What the mouse does, what comes by
+itself and what is rare is in used_pages.py. If no Chromium is installed, it says so, and tries only what needs none.
 
     tests/page.py PLAYER --pictures FOLDER    writes the pictures of README.md, docs/TUTORIAL.md and docs/TEACHING.md into
                                               FOLDER, too

@@ -52,7 +52,7 @@ def pressed(compared, browser, path):
     for of, shift, where in PRESSED:
         click(browser, of, shift)
         compared.same(f"after {of}", browser.value(WHERE), where)
-    for key, place in (("Home", 0), ("PageDown", 1), ("PageUp", 0)):
+    for key, place in (("Home", 0), ("PageDown", 1), ("PageUp", 0), ("ArrowRight", 1), ("ArrowLeft", 0)):
         browser.press(key)
         compared.same(f"after {key}", browser.value("at"), place)
     click(browser, "#next")

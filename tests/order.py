@@ -29,7 +29,7 @@ from tests.texts import TOP, Tester  # noqa: E402
 from tools.mesi import Machine  # noqa: E402
 from tools.number import numbered  # noqa: E402
 from tools.order import confirmed, timed  # noqa: E402
-from tools.orders import find, layers, least, reasons, search, solver, witness  # noqa: E402
+from tools.orders import find, forced, layers, least, reasons, search, solver, witness  # noqa: E402
 from tools.orders.answer import answer  # noqa: E402
 from tools.orders.forced import Forced, NoOrder, TimeUp  # noqa: E402
 from tools.orders.history import read_history  # noqa: E402
@@ -176,6 +176,8 @@ def nested(text):
 
 # Two swaps of the opening value, which write it again; behind the store of 15 none of them may come.
 REOPENED = b"0 S 0x0 1 1\n1 S 0x0 1 1\n2 W 0x0 15\n2 R 0x0 1\n"
+# Core 0's load passes its own store by: what it received is behind that, by core 1.
+PASSED = b"0 W 0x0 1\n0 R 0x0 2\n1 R 0x0 1\n1 W 0x0 2\n"
 # What z3 may print, in part or whole, and what is made of it: an order of two nodes, none, or that it isn't known.
 PRINTED = [("sat\n(\n  (define-fun t0 () Int\n    3)\n  (define-fun t1 () Int\n    (- 1))\n)\n", [1, 0]),
            ("sat\n((define-fun t1 () Int 3) (define-fun s1_0 () Bool true) (define-fun t0 () Int (- 4)))\n", [0, 1]),
@@ -188,6 +190,10 @@ def printed(tester):
     """z3's answers are read, from a program that prints them in its place. The question has what the opening says."""
     for text, has_order in ((REOPENED, False), (REOPENED.replace(b"2 R", b"3 R"), True)):
         asks(tester, read_history(text), has_order, {"opening": {0: 1}}, False)
+    problem = Problem(read_history(PASSED), model="tso")
+    lines = solver.Question(problem, Forced(problem)).lines
+    tester.expect(has_answer(solver.Question(problem, Forced(problem))) and len(lines) == len(set(lines)),
+                  f"what is known is asked once: {lines}")
     problem, usual = Problem(read_history(b"0 W 0x0 1\n1 W 0x0 2\n")), os.environ["PATH"]
     (tester.folder / "z3").write_text('#!/bin/sh\ncat >"$0.asked"\ncat "$0.printed"\n')
     (tester.folder / "z3").chmod(0o755)
@@ -198,8 +204,19 @@ def printed(tester):
         tester.expect(found == wanted and type(found) is type(wanted), f"z3 prints {text!r}: {found}")
     asked = (tester.folder / "z3.asked").read_text().splitlines()
     tester.expect([asked[0], *asked[-2:]] == [solver.LOGIC, "(check-sat)", "(get-model)"], f"z3 is asked: {asked}")
+    too_long(tester, problem)
     believed(tester)
     os.environ["PATH"] = usual
+
+
+def too_long(tester, problem):
+    """z3 isn't asked where the question has too many lines. That of two stores has two numbers and a claim."""
+    (tester.folder / "z3.printed").write_text("unsat\n")
+    usual = solver.MOST_CLAUSES
+    for solver.MOST_CLAUSES, wanted in ((2, None), (3, False)):
+        found = solver.ask(problem, Forced(problem), SECONDS)
+        tester.expect(found is wanted, f"a question of at most {solver.MOST_CLAUSES} lines: {found}")
+    solver.MOST_CLAUSES = usual
 
 
 def believed(tester):
@@ -222,6 +239,27 @@ def unfinished(tester):
     for part in (Least(operations, {}, float("inf")), Least(operations, {}, 0), Stuck(operations, {}, 0)):
         tester.expect((part.nodes, part.is_least) == (list(range(6)), False), f"time is up: {part.nodes}")
     least.PART_SECONDS = usual
+
+
+# A ring of the cores 0, 1 and 2, and a shorter one of the cores 3 and 4.
+RINGS = b"".join(b"%d W %d 1\n%d R %d 0\n" % (core, core, core, other) for core, other in enumerate((1, 2, 0, 4, 3)))
+SWAPS = "0 S 0x0 1 1\n1 S 0x0 1 1\n2 S 0x0 1 1\n3 R 0x8 0\n"
+
+
+def limits(tester):
+    """A shorter ring is looked for while there is time, and else the first one has to do; of a set some are printed."""
+    usual, operations = forced.RING_SECONDS, read_history(RINGS)
+    for forced.RING_SECONDS, wanted in ((usual, [7, 8, 9, 10]), (-1, [1, 2, 3, 4, 5, 6])):
+        lines = answer(operations, SECONDS).lines
+        told_of = sorted(int(line.split()[1]) for line in lines if line.startswith("  line "))
+        tester.expect(told_of == wanted and facts_hold(operations, lines), f"a ring of {wanted}: {lines}")
+    forced.RING_SECONDS = usual
+    usual = reasons.MOST_TOLD
+    for reasons.MOST_TOLD, wanted in ((3, []), (2, ["  and 1 more"]), (1, ["  and 2 more"])):
+        lines = answer(read_history(SWAPS.encode()), SECONDS).lines[1:]
+        told_of = [f"  line {core + 1} (core {core}'s swap of 0x0, which received 1 and wrote 1)" for core in range(3)]
+        tester.expect(lines == told_of[:reasons.MOST_TOLD] + wanted, f"{reasons.MOST_TOLD} of three are printed: {lines}")
+    reasons.MOST_TOLD = usual
 
 
 # Texts with the answer's first words; those of Axe's form as its users write them.
@@ -398,6 +436,9 @@ TOLD = [
     ("0: M[0] := 1\n0: sync @ 0:10\n1: M[0] == 0 @ 10:12\n", ["--real-time"], [TIMED]),
     ("0: M[0] := 1 @ 0:\n1: M[0] == 0 @ 11:12\n", ["--real-time"], [TIMED]),
     ("0: M[0] := 1 @ 0:10\n1: M[0] == 0 @ :12\n", ["--real-time"], [TIMED]),
+    ("0 W 0x0 1 @ 10 20\n0 R 0x0 1 @ 0 5\n", ["--real-time"], [
+        "  1: line 1 before line 2: program order of core 0",
+        "  2: line 2 before line 1: it ended before the other started"]),
     ("0 W 0x0 1\n0 R 0x0 0\n", ["--model", "tso"], [
         f"  1: line 2 sees line 1, its core's last write of the word before it {tso.NOT_PROVED}",
         f"  2: line 2 didn't receive the opening value: line 1 had overwritten it, by 1 {tso.NOT_PROVED}"]),
@@ -413,7 +454,7 @@ TOLD = [
         "not consistent: no order of these 3 operations gets to the last one of core 0, 1 or 2, and none can be left "
         "out:", *(f"  line {2 * core + 1} (core {core}'s load of 0x0, which received 1)" for core in range(3))]),
     # The same of four cores, by the search: no swap goes whose value another one received.
-    ("0 S 0x0 1 1\n1 S 0x0 1 1\n2 S 0x0 1 1\n3 R 0x8 0\n", [], [
+    (SWAPS, [], [
         "not consistent: no order of these 3 operations explains what they received, and none can be left out:",
         *(f"  line {core + 1} (core {core}'s swap of 0x0, which received 1 and wrote 1)" for core in range(3))]),
     # Addresses are named as the text has them.
@@ -614,6 +655,8 @@ MESI_RUNS = 25
 
 def numbers(tester):
     numberer, history = Tester(str(TOP / "tools/number.py")), tester.folder / "timed.history"
+    ran = numberer.run("--nothing", str(history))
+    tester.expect(ran == (2, "", "number.py: unrecognized arguments: --nothing (--help tells all)\n"), f"words: {ran}")
     for text, wanted, mapped in NUMBERED:
         history.write_text(text)
         status, out, error = numberer.run("--out", str(tester.folder), str(history))
@@ -688,7 +731,7 @@ def main():
         tester = Orders(os.environ["TARDIS"], folder)
         draws(tester, given.histories, given.seed)
         if not given.drawn:
-            for part in (printed, unfinished, texts, settings, openings, confirmations, told, orders_of_buffers,
+            for part in (printed, unfinished, limits, texts, settings, openings, confirmations, told, orders_of_buffers,
                          drawn_orders, branches, numbers, kept, directories, examples):
                 part(tester)
             sizes(tester, given.large)

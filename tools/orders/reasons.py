@@ -36,10 +36,9 @@ class Proof:
         return self.numbers[key]
 
     def ring(self, nodes):
-        """The operations of a ring, with its facts stated. Neighbouring steps of one chain count as one."""
+        """The operations of a ring, with its facts stated. Neighbouring steps of one chain count as one. From the last
+        operation to the first goes an edge: `Forced.shortest_ring` begins with one."""
         steps = list(self.steps([*nodes, nodes[0]]))
-        while len(steps) > 1 and self.is_chain(steps[-1]) and self.is_chain(steps[0]):
-            steps = [(steps[-1][0], steps[0][1]), *steps[1:-1]]
         for one, other in steps:
             self.step(one, other)
         return [one for one, _ in steps]

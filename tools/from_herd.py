@@ -328,9 +328,7 @@ class Column:
     @staticmethod
     def result(name, sources, values):
         if name in ("li", "mv"):
-            return values[0] if len(values) == 1 and (name == "mv") == (sources[0] in REGISTERS) else None
-        if name not in COMPUTED or len(values) != 2:
-            return None
+            return values[0] if (name == "mv") == (sources[0] in REGISTERS) else None
         is_one_twice = REGISTERS[sources[0]] == REGISTERS.get(sources[1])
         if name in ("xor", "sub") and is_one_twice or name == "and" and 0 in values:
             return 0

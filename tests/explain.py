@@ -17,7 +17,7 @@ sys.path.insert(0, str(Path(__file__).resolve().parent.parent))
 from tests.texts import TOP, Tester, of_printf, rows, unescaped  # noqa: E402
 from reference.litmus_faults import fault_of  # noqa: E402
 from reference.traces import record_line  # noqa: E402
-from tools import explain, explained_runs, explained_texts, litmus_hints  # noqa: E402
+from tools import explain, explained_orders, explained_runs, explained_texts, litmus_hints  # noqa: E402
 
 
 MP = "0 W 0x0 1\n0 W 0x8 1\n1 R 0x8\n1 R 0x0\n"
@@ -112,6 +112,7 @@ RUNS = [
         "  core 2 waits for line 0x0 of bank 0 since turn 1 (R 0x0): its request is m2",
         "Set 0 of bank 0 has places for 1 lines:", "  0x0 left it 33 times in the last 100 turns", "Remedy: --fair;"]),
     (LIVELOCK.format("--fair "), 0, ["nothing is wrong, all is done"]),
+    ("trace --help", 0, ["FILE", "--lease N", "--stream"]),
     (LIVELOCK.format("--fair --stream --cores 3 "), 0, ["nothing is wrong, all is done"]),
     (LIVELOCK.format("--stream "), 1, ["end limit: 1 operations of 3 issued are completed", "Cause: starvation."]),
     (LIVELOCK.format("--fair --json --counts --every 1 "), 0, ["nothing is wrong, all is done"]),
@@ -208,6 +209,14 @@ TEXTS = [
     (".litmus", PLAIN + OPENING, ["line 3", "14 CutShort", "The condition"]),
     (".litmus", PLAIN + OPENING + " sw x5,0(x6) ;\nexists x=0\n", [
         "line 4", "7 BadTable", "The row has 1 cell, and there are 2 threads"]),
+    # A header row that isn't the first to come has as many cells as the one behind it.
+    (".litmus", PLAIN + "{ x=0; }\n P1 | P0 ;\n P0 | P1 ;\nexists x=0\n", [
+        "line 3, `P1 | P0 ;`", "7 BadTable", "often meant: A row has a cell for each thread"]),
+    # A location may have a thread's name.
+    (".litmus", PLAIN + "{ 1:x6=x;\nP0=2; }\n P0 | P1 ;\n li x5,1 ;\nexists x=0\n", [
+        "line 5", "7 BadTable", "The row has 1 cell, and there are 2 threads"]),
+    (".litmus", PLAIN + "{ 1:x6=x;\nP0=2; }\n P0 | P1 ;\nexists 2:x7=0\n", [
+        "line 5", "13 BadCondition", "There is no thread 2: the table has 2, from P0 on."]),
     (".trace", "x R 0x0\n", ["CORE: `x`", "4 BadCore", "begins with the core, a number alone"]),
     (".trace", f"0 R 0x0 {'y' * 92}\n", [f"line 1, `0 R 0x0 {'y' * 92}`, a field too many"]),
     (".trace", f"0 R 0x0 {'y' * 93}\n", [f"line 1, `0 R 0x0 {'y' * 92}..`, a field too many: `{'y' * 93}`"]),
@@ -420,6 +429,7 @@ def runs(tester):
         tester.expect((status, error) == (1, "") and -1 not in at and at == sorted(at),
                       f"{words}: {status} {out} {error}")
     streamed(tester)
+    undecided(tester)
     full = tester.run("--", "trace", "examples/traces/PAST.trace")
     tester.expect(full[0] == 0, f"a run that is all done: {full}")
     tester.expect(tester.run("--", "ends", "examples/litmus/SB.litmus")[0] == 0, "a list of ends")
@@ -443,6 +453,23 @@ def piped(tester):
                                 (["/dev/stdin", str(TOP / "examples/traces/PAST.records")], texts[1], "legal\n")):
         got = tester.run(*words, text=text)
         tester.expect(got == (0, wanted, ""), f"{words} through a pipe: {got}")
+
+
+def undecided(tester):
+    """Where the time is up, nothing is said of the records around a wrong value. A store that misses is done in round
+    6, five rounds after the first; fewer rounds don't show that it will be."""
+    usual, explained_orders.SECONDS = explained_orders.SECONDS, -1
+    out = tester.tells(["wrong value 4", "another may: tools/order.py RECORDS looks for it."],
+                       *map(str.encode, EQUAL[0][:2]))
+    tester.expect("rder of the" not in out, f"no time for another order: {out}")
+    explained_orders.SECONDS = usual
+    options = explained_runs.options_of(["trace", "--limit", "1", "examples/traces/FIRST-STORE.trace"])
+    run, _ = explained_runs.run_of(explained_runs.subject_of(options, Path(options.FILE).read_bytes()), options, 0)
+    usual = explained_runs.LONG
+    for explained_runs.LONG, wanted in ((usual, 5), (6, 5), (5, None)):
+        rounds = explained_runs.goes_on_fairly(run)
+        tester.expect(rounds == wanted, f"of {explained_runs.LONG - 1} rounds: {rounds}, wanted {wanted}")
+    explained_runs.LONG = usual
 
 
 def streamed(tester):

@@ -46,6 +46,11 @@ def of_instruction(cell):
     return f"`{name}` is no instruction here{asked} There are {', '.join(f'`{known}`' for known in OPERANDS)}."
 
 
+def head_of(text):
+    """The header row of the table, or None."""
+    return next((row for row in text.split("\n") if re.match(r"[ \t\r]*P0[ \t\r]*([|;]|$)", row)), None)
+
+
 def of_row(text, line):
     """What a line of the table may mean, by its keyword or by how many cells it has."""
     word = (line.split() or [""])[0].split("(")[0]
@@ -54,7 +59,7 @@ def of_row(text, line):
         return "A condition begins with `exists`, `~exists` or `forall`; any other line counts as a row."
     if near and word not in KEYWORDS:
         return f"`{word}`: did you mean `{near[0]}`? Any line that begins otherwise counts as a row."
-    heads = next((row for row in text.split("\n") if re.match(r"[ \t\r]*P0\b", row)), None)
+    heads = head_of(text)
     bare = line.rstrip(" \t\r")
     if heads is None or bare == heads.rstrip(" \t\r"):
         return None
@@ -70,7 +75,7 @@ def of_row(text, line):
 
 def of_condition(text, line):
     """What a condition may mean that can't go on in this line."""
-    heads = next((row for row in text.split("\n") if re.match(r"[ \t\r]*P0\b", row)), "")
+    heads = head_of(text)
     missing = [thread for thread in re.findall(r"(\d+)\s*:\s*x\d", line) if int(thread) > heads.count("|")]
     if missing:
         threads = heads.count("|") + 1
@@ -91,14 +96,13 @@ def of_condition(text, line):
     return "A parenthesis too many, or one that is missing." if line.count("(") != line.count(")") else None
 
 
-def of_block(text, number, line):
+def of_block(line):
     """What a line in which the initial block can't go on may mean."""
     if re.match(r"[ \t]*P0\b", line):
         return "The initial block has no `}` before the table."
     if re.search(r"\{.*\{", line):
         return "Arrays have no counterpart here: each word is a location of its own."
-    block = text.split("\n")[:number]
-    if re.search(r"(^|[;{])\s*[A-Za-z_]\w*\s*=\s*&?[A-Za-z_]", line) and any("{" in one for one in block):
+    if re.search(r"(^|[;{])\s*[A-Za-z_]\w*\s*=\s*&?[A-Za-z_]", line):
         return "A location opens with a number: addresses in memory have no counterpart here."
     if re.search(r"=\s*\w+\s*,", line):
         return "Items end in `;`, not in a comma."
@@ -119,7 +123,7 @@ def hint(text, number, kind, cell):
     if kind == 4 and number == 1 and re.match(r'\s*(\{|"|P0|\w+\s*=)', line):
         return "The first line is missing: `RISCV NAME`."
     if kind == 5:
-        found = of_block(text, number, line)
+        found = of_block(line)
     if kind == 7:
         found = of_row(text, line)
     if kind == 13:

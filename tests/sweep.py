@@ -328,6 +328,18 @@ def compared(tester):
         tester.expect(rows[0]["failed"] == "the program and the player differ", f"{change}: {rows}")
 
 
+def reportless(tester):
+    """A program that prints no report, or a part of one, makes the row fail."""
+    kept, os.environ["TARDIS"] = os.environ["TARDIS"], str(Path("reportless").resolve())
+    for number, change in enumerate(("s/.*/none/", "s/.*/no report/", "/^renewals /d")):
+        Path("reportless").write_text(f"#!/bin/sh\n'{kept}' \"$@\" | sed '{change}'\n")
+        Path("reportless").chmod(0o755)
+        table = f"reportless{number}.csv"
+        rows = tester.sweep("--csv", table, "alone.trace", status=1, made=1, rows=1, failed=1, table=table)
+        tester.expect(rows[0]["failed"] == "the program prints no report", f"{change}: {rows}")
+    os.environ["TARDIS"] = kept
+
+
 def traces_apart(tester):
     """Each trace has its line, and traces of one name in two folders have their paths."""
     Path("other").mkdir()
@@ -512,7 +524,7 @@ def main(program, player):
         for name, text in (("renewed", RENEWED), ("alone", ALONE), ("loads", LOADS), ("bad", "x\n")):
             Path(f"{name}.trace").write_text(text)
         for part in (by_hand, advances, names, goes_on, plot, logarithmic, shown, parts, interrupted, cut_short, fair,
-                     passed_on, compared, traces_apart, piped, by_the_second, by_lines, points, points_in_parts,
+                     passed_on, compared, reportless, traces_apart, piped, by_the_second, by_lines, points, points_in_parts,
                      told_apart, refusals, large, appended):
             part(tester)
         os.chdir(TOP)

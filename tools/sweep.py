@@ -256,7 +256,8 @@ class Sweep:
         return Namespace(**{name.replace("-", "_"): int(row[name]) for name in NUMBERS})
 
     def report(self, file, chosen):
-        lines = dict(line.split(" ", 1) for line in program.run("trace", *options_of(chosen), file).splitlines())
+        printed = program.run("trace", *options_of(chosen), file).splitlines()
+        lines = dict(line.partition(" ")[::2] for line in printed)
         if not set(REPORT) <= lines.keys():
             raise Bad("the program prints no report")
         return {name: lines[name] for name in REPORT}

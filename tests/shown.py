@@ -80,6 +80,13 @@ def charts(tester, path):
     for text, (lane, row) in NOTES.items():
         place = [float(found[text].get(name)) for name in "xy"]
         tester.expect(place == [lanes[lane] - 10, 60 + 26 * row + 4], f"{text} at {place}")
+    chart = Chart(tester.run("--cores", "1", str(path))[1])
+    left = {said: of for said, of in MESSAGES.items() if "core 0" not in of}
+    tester.expect(list(chart.lanes.values()) == ["core 1", "bank 0", "DRAM 0"], f"lanes of core 1: {chart.lanes}")
+    tester.expect(chart.arrows == [(start, sent, end, first) for start, end, sent, first, _ in left.values()],
+                  f"arrows of core 1: {chart.arrows}")
+    wanted = [*left, *(said for said, (lane, _) in NOTES.items() if lane == "core 1")]
+    tester.expect([said for said, _ in chart.texts()] == wanted, f"texts of core 1: {chart.texts()}")
 
 
 def steps(tester, path):
@@ -90,6 +97,13 @@ def steps(tester, path):
         got = [tuple(re.split("  +", line)) for line in out.splitlines()]
         wanted = [tuple(cell.format(*values) for cell in row) for row in STEPS]
         tester.expect((status, got, error) == (0, wanted, ""), f"the steps of {word}: {status} {out}{error}")
+    path.write_text(STORED + "1 A\n")  # an advance in the first round, before messages are delivered
+    status, out, error = tester.run("0x8", "--line-words", "8", "--cores", "1", str(path))
+    got = [tuple(re.split("  +", line)) for line in out.splitlines()]
+    wanted = [("turn", "event", "core 1", "bank"), ("1", "core 1: Advance", "1: -", "-")]
+    wanted += [(turn, event, "1: -", bank.format("0")) for turn, event, _, bank in STEPS[1:]
+               if not event.startswith("core 0")]
+    tester.expect((status, got, error) == (0, wanted, ""), f"the steps of core 1: {status} {out}{error}")
 
 
 def timelines(tester, path):
@@ -108,6 +122,14 @@ def timelines(tester, path):
     tester.expect(points == POINTS, f"points: {points}")
     turned = [part.get("transform") is not None for group in root.iter(f"{SVG}g") for part in group.iter(f"{SVG}rect")]
     tester.expect(turned == [False, True], f"turned: {turned}")
+    out = tester.run("--cores", "0,2", str(path))[1]
+    titles = [one.text for one in xml.fromstring(out).iter(f"{SVG}title")]
+    tester.expect(titles == [TITLES[0], TITLES[2]], f"titles of two cores: {titles}")
+    path.write_text("1 W 0x0 1\n")
+    for cores, wanted in (("0,1", (0, "")),
+                          ("0", (2, f"timeline.py: {path}: no operation of these cores is completed\n"))):
+        status, _, error = tester.run("--cores", cores, str(path))
+        tester.expect((status, error) == wanted, f"a timeline of the cores {cores}: {status} {error}")
 
 
 # What is refused in one line, by options that each of the three scripts has.

@@ -168,9 +168,50 @@ def great_times(player, folder):
         yield f"great times: numbers {great}"
 
 
+# Two messages are in flight at most. Core 0 owns 0x0, and its store there isn't completed yet; then two loads ask for
+# other words, and there is no room for a line that goes back, for DRAM's load or for a third request.
+FULL = """example full
+machine cores 3 messages 2
+issue 0 W 0x0 1
+attempt 0
+deliver m0
+deliver m1
+deliver m2
+deliver m0
+deliver m3
+evict core 0 0x0
+attempt 0
+issue 0 R 0x8
+attempt 0
+issue 1 R 0x10
+attempt 1
+evict core 0 0x0
+deliver m4
+issue 2 R 0x0
+attempt 2
+"""
+NO_PLACE = "As many messages are in flight as the capacity allows, so nothing changes."
+# What the page says of those that are refused, in turn.
+SAID = [["refused Pinned", "0x0 can't leave: Pinned", "A pinned copy, or a line that is under way, stays."],
+        *(["refused NetworkFull", f"{what} is refused: NetworkFull", NO_PLACE] for what in (
+            "The eviction of 0x0 from core 0", "The delivery of ShReq for 0x8", "The attempt of core 2"))]
+
+
+def refused_events(player, folder):
+    """What a page says of events that are refused."""
+    (folder / "full.events").write_text(FULL)
+    status, said = written(player, [str(folder / "full.events")], folder / "full.html")
+    steps = [step[1:5] for step in data_of(folder / "full.html")["steps"] if step[1].startswith("refused")]
+    if (status, said) != (0, "") or steps != [[*step, "The machine's events"] for step in SAID]:
+        yield f"events that are refused: status {status}, {said!r}, {steps}"
+
+
 def bad_players():
     """Commands that are no player: each is refused in one line."""
     for command, says in (("/bin/cat", "/bin/cat doesn't play texts of events"), ("", "--player: a command is wanted"),
+                          ("false", "the player failed, with status 1 (--player reference/play.py needs no kit)"),
+                          ("true", "the player failed, with status 0 (--player reference/play.py needs no kit)"),
+                          ("sh -c 'echo some; echo words; exit 3'", "the player failed, with status 3: some (--player"),
                           ("'", "--player ': No closing quotation"), ("none", "none: No such file or directory")):
         ran = subprocess.run([TOP / "tools/page.py", "--player", command, "examples/litmus/SB.litmus"], cwd=TOP,
                              check=False, capture_output=True, text=True)
@@ -181,12 +222,21 @@ def bad_players():
 def refusals(player, folder):
     """What is answered in one line, and what the page says of a run that isn't all done."""
     yield from bad_players()
+    yield from refused_events(player, folder)
     (folder / "bad.events").write_text("example x\nmachine cores 99 : opened\nissue 0 R 0x0 : issued\n")
+    (folder / "few.events").write_text("# a comment\n\nexample x\nmachine cores 2 : opened\n")
+    (folder / "many.events").write_text("example x\nmachine\nrepeat 5001 advance 0\n")
+    (folder / "unread.events").write_text("example x\nmachine\nissue 0 Q 0x0\n")
     (folder / "huge.trace").write_text("".join(f"{n % 8} W 0x0 {n}\n" for n in range(900)))
     for words, status, says in (([folder / "huge.trace"], 2, "a page shows 5,000 at most"),
                                 (["README.md"], 2, "README.md: line 3: 4 BadCore"),
                                 (["no.trace"], 2, "no.trace: No such file or directory"),
                                 ([folder / "bad.events"], 2, "`machine cores 99` is refused BadConfig"),
+                                ([folder / "few.events"], 2, "has 0 events, and a page shows 1 to 5,000\n"),
+                                ([folder / "many.events"], 2, "has 5001 events, and a page shows 1 to 5,000\n"),
+                                ([folder / "unread.events"], 2, "unread.events:3: "),
+                                (["--cores", "0,3", folder / "full.events"], 2, "full.events has the cores 0 to 2\n"),
+                                (["--lease", "0", "examples/traces/PAST.trace"], 2, "configuration: --lease 0: 1 to"),
                                 (["--time", "-1", "examples/traces/PAST.trace"], 2, "configuration: --time -1: 0 to"),
                                 (["--limit", "0", "examples/traces/PAST.trace"], 2, "configuration: --limit 0: 1 to"),
                                 (["--limit", "4", "examples/traces/PAST.trace"], 1, "The run was cut")):

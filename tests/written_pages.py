@@ -135,8 +135,24 @@ def questions(player, folder):
         yield f"a changed rule: status {status}, {said!r}, {found['wrong']}, {marked}"
 
 
+# Two advances and a load; and a text without a line that says something, which is a trace, too.
+ADVANCED, NOTHING = "trace 2\n0 A\n0 A\n0 R 0x0\n", "# nothing\n\n"
+
+
+def steps_done(player, folder):
+    """How far a core is in its program: by rounds after each advance; by a seed, once a load behind it is issued."""
+    for schedule, text, wanted in (("round", ADVANCED, [1, 2, 3]), ("seed", ADVANCED, [2, 3]), ("round", NOTHING, [])):
+        (folder / "done.trace").write_text(text)
+        status, said = written(player, ["--schedule", schedule, str(folder / "done.trace")], folder / "done.html")
+        data = data_of(folder / "done.html")
+        found = [step[5]["at 0"] for step in data["steps"] if step[5].get("at 0")]
+        if (status, said, found, data["end"]) != (0, "", wanted, "All operations are done."):
+            yield f"{text!r} by {schedule}: status {status}, {said!r}, steps done {found}, {data['end']}"
+
+
 def counted(player, folder):
-    """Jumps find as many events of each kind as a test's report counts."""
+    """Jumps find as many events of each kind as a test's report counts; and how many steps a core has done."""
+    yield from steps_done(player, folder)
     for name in ("SB", "LOCK", "RENEW", "STALE"):
         path = folder / f"{name}.html"
         written(player, [f"examples/litmus/{name}.litmus"], path)

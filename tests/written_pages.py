@@ -184,13 +184,14 @@ def great_times(player, folder):
         yield f"great times: numbers {great}"
 
 
-# Two messages are in flight at most. Core 0 owns 0x0, and its store there isn't completed yet; then two loads ask for
-# other words, and there is no room for a line that goes back, for DRAM's load or for a third request.
+# Two messages are in flight at most. 0x0 comes to the bank. Core 0 owns it, and its store there isn't completed yet. Then
+# two loads ask for other words; there is no room for a line that goes back, for DRAM's load or for a third request.
 FULL = """example full
 machine cores 3 messages 2
 issue 0 W 0x0 1
 attempt 0
 deliver m0
+evict bank 0 0x0
 deliver m1
 deliver m2
 deliver m0
@@ -207,19 +208,78 @@ issue 2 R 0x0
 attempt 2
 """
 NO_PLACE = "As many messages are in flight as the capacity allows, so nothing changes."
+# The same at the last time that fits 64 bits, and what the machine may be asked behind it.
+LAST = """example last
+machine cores 1 time 18446744073709551615
+issue 0 R 0x0
+issue 0 R 0x8
+advance 0
+attempt 0
+"""
+# Lines are named by their numbers, and by other words that they have.
+NAMED = """example named
+machine cores 1 line-words 8
+issue 0 R 0x48
+attempt 0
+deliver m0
+deliver m1
+deliver m2
+deliver m0
+deliver m3
+attempt 0
+evict core 0 1
+evict bank 0 0x50
+"""
 # What the page says of those that are refused, in turn.
-SAID = [["refused Pinned", "0x0 can't leave: Pinned", "A pinned copy, or a line that is under way, stays."],
+SAID = [*([f"refused {cause}", f"0x0 can't leave: {cause}", "A pinned copy, or a line that is under way, stays."]
+          for cause in ("Busy", "Pinned")),
         *(["refused NetworkFull", f"{what} is refused: NetworkFull", NO_PLACE] for what in (
             "The eviction of 0x0 from core 0", "The delivery of ShReq for 0x8", "The attempt of core 2"))]
+SAID_LAST = [
+    ["refused Busy", "The next operation of core 0 is refused: Busy",
+     "The core's operation isn't completed yet, so it is issued no other."],
+    ["refused Exhausted", "The advance of core 0 is refused: Exhausted",
+     "A sum of times doesn't fit 64 bits. The machine stops here."],
+    ["refused Stopped", "The attempt of core 0 is refused: Stopped",
+     "A sum of times didn't fit 64 bits before, so the machine makes no event any more."]]
+LEAVES = ["The line of 0x48 leaves core 0's cache", "The line of 0x48 leaves the bank"]
 
 
 def refused_events(player, folder):
-    """What a page says of events that are refused."""
-    (folder / "full.events").write_text(FULL)
-    status, said = written(player, [str(folder / "full.events")], folder / "full.html")
-    steps = [step[1:5] for step in data_of(folder / "full.html")["steps"] if step[1].startswith("refused")]
-    if (status, said) != (0, "") or steps != [[*step, "The machine's events"] for step in SAID]:
-        yield f"events that are refused: status {status}, {said!r}, {steps}"
+    """What a page says of events that are refused, and of lines that leave."""
+    for text, wanted in ((FULL, SAID), (LAST, SAID_LAST), (NAMED, [])):
+        (folder / "full.events").write_text(text)
+        status, said = written(player, [str(folder / "full.events")], folder / "full.html")
+        data = data_of(folder / "full.html")
+        steps = [step[1:5] for step in data["steps"] if step[1].startswith("refused")]
+        if (status, said) != (0, "") or steps != [[*step, "The machine's events"] for step in wanted]:
+            yield f"events that are refused: status {status}, {said!r}, {steps}"
+        if text == LAST and (data["programs"] != [["load 0x0"]] or any(step[5].get("at 0") for step in data["steps"])):
+            yield f"what is refused belongs to a program, or is done: {data['programs']}"
+    if [step[2] for step in data["steps"][-2:]] != LEAVES:
+        yield f"lines that leave: {data['steps'][-2:]}"
+
+
+# Texts that no page shows, and why. What follows a colon is said of a line.
+BAD_TEXTS = [("# few\n\nexample x\nmachine cores 2 : opened\n", " has 0 events, and a page shows 1 to 5,000\n"),
+             ("example x\nmachine\nrepeat 5001 advance 0\n", " has 5001 events, and a page shows 1 to 5,000\n"),
+             ("example x\nmachine\nissue 0 Q 0x0\n", ":3: "),
+             ("example x\nmachine\nadvance 0\nmachine cores 1\n", ":4: `machine cores 1`: a page shows the events of"),
+             *((f"example x\nmachine\nadvance 0\n{call}\n", f":4: `{call}`: a page shows the events of one machine")
+               for call in ("reopen", "run advance 0; advance 0", "rounds 9", "fair-rounds 9", "seed 1 9")),
+             *((f"example x\nmachine cores 1\n{call}\n", f": `{call}` is answered `{said}`: a page shows events of")
+               for call, said in (("attempt 0", "idle"), *((call, "refused NoSuch") for call in (
+                   "advance 1", "deliver m0", "issue 1 R 0x0", "attempt 1", "evict bank 0 0x0", "evict core 0 0"))))]
+
+
+def bad_texts(player, folder):
+    """Texts of events that no page shows are refused in one line."""
+    path = folder / "none.events"
+    for text, says in BAD_TEXTS:
+        path.write_text(text)
+        status, said = written(player, [str(path)], folder / "none.html")
+        if status != 2 or not said.startswith(f"page.py: {path}{says}") or said.count("\n") != 1:
+            yield f"{text!r}: status {status}, {said!r}"
 
 
 def bad_players():
@@ -239,19 +299,14 @@ def refusals(player, folder):
     """What is answered in one line, and what the page says of a run that isn't all done."""
     yield from bad_players()
     yield from refused_events(player, folder)
+    yield from bad_texts(player, folder)
     (folder / "bad.events").write_text("example x\nmachine cores 99 : opened\nissue 0 R 0x0 : issued\n")
-    (folder / "few.events").write_text("# a comment\n\nexample x\nmachine cores 2 : opened\n")
-    (folder / "many.events").write_text("example x\nmachine\nrepeat 5001 advance 0\n")
-    (folder / "unread.events").write_text("example x\nmachine\nissue 0 Q 0x0\n")
     (folder / "huge.trace").write_text("".join(f"{n % 8} W 0x0 {n}\n" for n in range(900)))
     for words, status, says in (([folder / "huge.trace"], 2, "a page shows 5,000 at most"),
                                 (["README.md"], 2, "README.md: line 3: 4 BadCore"),
                                 (["no.trace"], 2, "no.trace: No such file or directory"),
                                 ([folder / "bad.events"], 2, "`machine cores 99` is refused BadConfig"),
-                                ([folder / "few.events"], 2, "has 0 events, and a page shows 1 to 5,000\n"),
-                                ([folder / "many.events"], 2, "has 5001 events, and a page shows 1 to 5,000\n"),
-                                ([folder / "unread.events"], 2, "unread.events:3: "),
-                                (["--cores", "0,3", folder / "full.events"], 2, "full.events has the cores 0 to 2\n"),
+                                (["--cores", "0,1", folder / "full.events"], 2, "full.events has the cores 0 to 0\n"),
                                 (["--lease", "0", "examples/traces/PAST.trace"], 2, "configuration: --lease 0: 1 to"),
                                 (["--time", "-1", "examples/traces/PAST.trace"], 2, "configuration: --time -1: 0 to"),
                                 (["--limit", "0", "examples/traces/PAST.trace"], 2, "configuration: --limit 0: 1 to"),

@@ -80,7 +80,7 @@ class Places:
 
     def after(self, step):
         what, *of = step.call.split(" ")
-        if what not in ("issue", "advance", "attempt") or step.answer == "waiting":
+        if what not in ("issue", "advance", "attempt") or step.answer.startswith(("waiting", "refused")):
             return
         core = int(of[0])
         program = self.programs[core]

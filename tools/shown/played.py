@@ -137,7 +137,11 @@ class Played:
             return self.address(view[f"core {words[1]}"].split(" open ")[1].split(" ")[1])
         if words[0] == "deliver":
             return view[words[1]].split(" ")[6]
-        return words[3] if words[0] == "evict" else None
+        return self.line_named(words[3]) if words[0] == "evict" else None
+
+    def line_named(self, name):
+        """A line by the address of one of its words, or by its number."""
+        return self.address(name if name.startswith("0x") else f"{8 * self.options.line_words * int(name):#x}")
 
     def address(self, word):
         return f"{8 * self.options.line_words * (int(word, 16) // 8 // self.options.line_words):#x}"

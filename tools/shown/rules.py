@@ -14,7 +14,9 @@ CORE, BANK, LEASES, MEMORY, COPIES, EVENTS = (
     "A core", "A bank", "Leases", "Memory time and DRAM", "Private copies", "The machine's events")
 REFUSED = {"NetworkFull": "As many messages are in flight as the capacity allows, so nothing changes.",
            "Exhausted": "A sum of times doesn't fit 64 bits. The machine stops here.",
-           "NoMemory": "Allocation failed, and nothing changed."}
+           "NoMemory": "Allocation failed, and nothing changed.",
+           "Busy": "The core's operation isn't completed yet, so it is issued no other.",
+           "Stopped": "A sum of times didn't fit 64 bits before, so the machine makes no event any more."}
 
 
 def fields(text):
@@ -54,7 +56,7 @@ class Rules:
         """The headline, the rule and the section."""
         what, *of = step.call.split(" ")
         answer = step.answer.split(" ")
-        if answer[0] == "refused" and answer[1] in REFUSED:
+        if answer[0] == "refused" and answer[1] in REFUSED and (what, answer[1]) != ("evict", "Busy"):
             return f"{self.event(step, before, what, of)} is refused: {answer[1]}", REFUSED[answer[1]], EVENTS
         headline, *why = getattr(self, what)(step, before, of, answer)
         return [re.sub("^the line of", "The line of", headline), *why]

@@ -1,6 +1,7 @@
 """A run that is a text of events (docs/EVENTS.md), as tools/explore.py writes it: its first example, event by event.
 
-The programs are what the cores are issued there. A comment behind an event stands in the page's headline.
+The programs are what the cores are issued there. A comment behind an event stands in the page's headline. A text that
+drives, opens a machine again or names what isn't there has no page.
 """
 from pathlib import Path
 from types import SimpleNamespace
@@ -13,6 +14,10 @@ from reference.schedules import ADVANCE
 from reference.texts import examples_of
 from reference.traces import read_records
 from tools.shown.played import MOST_EVENTS, Played
+
+
+# Calls that make other events, or another machine.
+OTHERS = ("run", "reopen", "rounds", "fair-rounds", "seed")
 
 
 def is_text(path):
@@ -34,9 +39,12 @@ class Text:
         if example.fault:
             raise Bad("{}:{}: {}".format(path, *example.fault))
         self.path, self.kind, self.events, self.notes = path, example.title or Path(path).name, [], {}
+        self.machine = None
         lines = text.split("\n")
         for line, _, call, _ in example.lines():
             name, of = MachinePlayer.read(call)
+            if name in OTHERS or name == "machine" and self.machine:
+                raise Bad(f"{path}:{line.number}: `{call}`: a page shows the events of one machine, each by its line")
             if name == "machine":
                 self.machine, self.memory = call, of[1]
                 self.open_with(of[0])
@@ -76,18 +84,25 @@ class PlayedText(Played):
     def drive(self):
         """The events are given. The programs are what is issued and advanced."""
         self.machine, self.events, self.end = self.text.machine, [call for call, _ in self.text.events], "events"
-        programs = [[] for _ in range(self.text.cores)]
-        for _, (name, core, *of) in self.text.events:
-            if name in ("Issue", "Advance") and core < len(programs):
-                programs[core].append(of[0] if name == "Issue" else ADVANCE)
-        total = sum(map(len, programs))
+        total = sum(event[0] == "Issue" for _, event in self.text.events)
         asked = ["arranged", "stale", "check", *(f"record {number}" for number in range(total))]
         answers = self.player.ask([self.machine, *self.events, *asked])
         if answers[0] != "opened":
             raise Bad(f"{self.text.path}: `{self.machine}` is {answers[0]}")
+        programs = self.programs_of(answers[1:])
         arranged, stale, self.verdict, *records = answers[1 + len(self.events):]
         self.records = read_records("".join(f"{one}\n" for one in records if one != "none").encode())
         self.arranged = [] if arranged == "none" else list(map(int, arranged.split(" ")))
         self.stale = order.stale_loads(self.records)
         assert len(self.stale) == int(stale), "another count of stale hits"
+        return programs
+
+    def programs_of(self, answers):
+        """What is issued and advanced, by these answers to the events."""
+        programs = [[] for _ in range(self.text.cores)]
+        for (call, (name, core, *of)), said in zip(self.text.events, answers):
+            if said in ("idle", "refused NoSuch"):
+                raise Bad(f"{self.text.path}: `{call}` is answered `{said}`: a page shows events of what is there")
+            if said in ("issued", "advanced"):
+                programs[core].append(of[0] if name == "Issue" else ADVANCE)
         return programs

@@ -184,8 +184,8 @@ def great_times(player, folder):
         yield f"great times: numbers {great}"
 
 
-# Two messages are in flight at most. 0x0 comes to the bank. Core 0 owns it, and its store there isn't completed yet. Then
-# two loads ask for other words; there is no room for a line that goes back, for DRAM's load or for a third request.
+# Two messages are in flight at most. 0x0 comes to the bank. Core 0 owns it, and its store isn't completed yet. Then
+# two loads ask for other words; there is no room for a line to go back, for DRAM's load or for a third request.
 FULL = """example full
 machine cores 3 messages 2
 issue 0 W 0x0 1
@@ -208,13 +208,12 @@ issue 2 R 0x0
 attempt 2
 """
 NO_PLACE = "As many messages are in flight as the capacity allows, so nothing changes."
-# The same at the last time that fits 64 bits, and what the machine may be asked behind it.
+# A core with an open operation at the last time that fits 64 bits.
 LAST = """example last
 machine cores 1 time 18446744073709551615
 issue 0 R 0x0
 issue 0 R 0x8
 advance 0
-attempt 0
 """
 # Lines are named by their numbers, and by other words that they have.
 NAMED = """example named
@@ -239,9 +238,7 @@ SAID_LAST = [
     ["refused Busy", "The next operation of core 0 is refused: Busy",
      "The core's operation isn't completed yet, so it is issued no other."],
     ["refused Exhausted", "The advance of core 0 is refused: Exhausted",
-     "A sum of times doesn't fit 64 bits. The machine stops here."],
-    ["refused Stopped", "The attempt of core 0 is refused: Stopped",
-     "A sum of times didn't fit 64 bits before, so the machine makes no event any more."]]
+     "A sum of times doesn't fit 64 bits. The machine stops here."]]
 LEAVES = ["The line of 0x48 leaves core 0's cache", "The line of 0x48 leaves the bank"]
 
 
@@ -267,7 +264,8 @@ BAD_TEXTS = [("# few\n\nexample x\nmachine cores 2 : opened\n", " has 0 events, 
              ("example x\nmachine\nadvance 0\nmachine cores 1\n", ":4: `machine cores 1`: a page shows the events of"),
              *((f"example x\nmachine\nadvance 0\n{call}\n", f":4: `{call}`: a page shows the events of one machine")
                for call in ("reopen", "run advance 0; advance 0", "rounds 9", "fair-rounds 9", "seed 1 9")),
-             *((f"example x\nmachine cores 1\n{call}\n", f": `{call}` is answered `{said}`: a page shows events of")
+             (f"example x\nmachine time {2 ** 64 - 1}\nadvance 0\nattempt 0\n", ": `attempt 0` is answered `refused"),
+             *((f"example x\nmachine cores 1\n{call}\n", f": `{call}` is answered `{said}`, and a page shows no such")
                for call, said in (("attempt 0", "idle"), *((call, "refused NoSuch") for call in (
                    "advance 1", "deliver m0", "issue 1 R 0x0", "attempt 1", "evict bank 0 0x0", "evict core 0 0"))))]
 

@@ -15,8 +15,7 @@ CORE, BANK, LEASES, MEMORY, COPIES, EVENTS = (
 REFUSED = {"NetworkFull": "As many messages are in flight as the capacity allows, so nothing changes.",
            "Exhausted": "A sum of times doesn't fit 64 bits. The machine stops here.",
            "NoMemory": "Allocation failed, and nothing changed.",
-           "Busy": "The core's operation isn't completed yet, so it is issued no other.",
-           "Stopped": "A sum of times didn't fit 64 bits before, so the machine makes no event any more."}
+           "Busy": "The core's operation isn't completed yet, so it is issued no other."}
 
 
 def fields(text):

@@ -1,7 +1,7 @@
 """A run that is a text of events (docs/EVENTS.md), as tools/explore.py writes it: its first example, event by event.
 
 The programs are what the cores are issued there. A comment behind an event stands in the page's headline. A text that
-drives, opens a machine again or names what isn't there has no page.
+drives, opens a machine again, names what isn't there or goes on when the machine has stopped has no page.
 """
 from pathlib import Path
 from types import SimpleNamespace
@@ -101,8 +101,8 @@ class PlayedText(Played):
         """What is issued and advanced, by these answers to the events."""
         programs = [[] for _ in range(self.text.cores)]
         for (call, (name, core, *of)), said in zip(self.text.events, answers):
-            if said in ("idle", "refused NoSuch"):
-                raise Bad(f"{self.text.path}: `{call}` is answered `{said}`: a page shows events of what is there")
+            if said in ("idle", "refused NoSuch", "refused Stopped"):
+                raise Bad(f"{self.text.path}: `{call}` is answered `{said}`, and a page shows no such event")
             if said in ("issued", "advanced"):
                 programs[core].append(of[0] if name == "Issue" else ADVANCE)
         return programs

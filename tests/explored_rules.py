@@ -66,6 +66,9 @@ WRONG = [
     ("a swap receives what it stores", VALUE, 8, "0 S 0x0 1\n", {}, [
         ('received = copy.words[index] if kind != "store" else None',
          'received = dict(load=copy.words[index], swap=value, store=None)[kind]')]),
+    ("all records are core 0's", ORDER, 8, "1 W 0x0 1\n", {}, [("Record(number, core.done", "Record(0, core.done")]),
+    ("each completion is recorded twice", ORDER, 8, "0 W 0x0 1\n0 W 0x0 2\n", {}, [
+        ("        self.records.append(", "        for _ in (1, 2): self.records.append(")]),
 ]
 # Where those fail that the machine has no case for, and how.
 FAILING = {"no copy has version 0": ("AttributeError", 'assert copy.state == "Shared"'),
@@ -91,6 +94,9 @@ WIDE = [
         ("            copy.rts = m.rts\n", "            copy.rts = max(m.rts, m.wts)\n")]),
     ("a core's time falls", ("last",), [
         ("            time = max(core.pts, copy.wts)\n", "            time = copy.wts\n")]),
+    ("a record is earlier than its core's time, which doesn't fall", ("last",), [
+        ("            time = max(core.pts, copy.wts)\n", "            time = copy.wts\n"),
+        ("core.pts, core.op, core.done = time,", "core.pts, core.op, core.done = max(core.pts, time),")]),
     ("a bank reads a core's time", ("whole",), [
         ('        if e.state == "Exclusive":\n            until',
          '        if e.state == "Exclusive" and self.cores[m.core].pts >= 0:\n            until')]),
@@ -100,6 +106,13 @@ WIDE = [
     ("a machine has more", ("whole",), [
         ("        self.stopped = False\n", "        self.stopped, self.grants = False, 0\n")]),
 ]
+# Rules with the same states: of each line its bank keeps the cores that asked for it, as a set or in order.
+ASKED = "        same = m.version == e.wts\n"
+GATHERED = [(ASKED, ASKED + keeps) for keeps in (
+    """        e.asked = getattr(e, "asked", None) or set()
+        e.asked.add(8 * m.core)
+""", """        e.asked = sorted({8 * m.core, *(getattr(e, "asked", None) or [])})
+""")]
 # Rules that read numbers which states don't have, so that they are refused.
 NUMBERED = [
     ("how many messages were sent", [("        if core.out:\n", "        if core.out and self.sent > 500:\n")]),

@@ -180,7 +180,7 @@ class Parts(Saved):
         if after["pts"] < before["pts"] and not self.keeps_last:
             raise Unread("last")
         for core, at, kind, word, written, received, time in made.records:
-            if (core, at, (kind, word, written)) != (place, before["done"], before["op"]):
+            if len(made.records) > 1 or (core, at, (kind, word, written)) != (place, before["done"], before["op"]):
                 return None, self.fault("out of program order", ""), None
             if time < before["pts"] and not self.keeps_last:
                 raise Unread("last")

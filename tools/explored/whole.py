@@ -107,12 +107,11 @@ class Whole(Saved):
         name = self.event_id(event, state[3])
         at = first + (len(state[3]) - 1 - event[1] if first else event[1]) if event[0] == "Deliver" else 0
         failed = self.made(machine, ("Deliver", Number(at)) if event[0] == "Deliver" else event)
-        if failed:
-            return name, None, self.fault(*failed)
+        fault = failed or self.wrong(machine, len(state[4]))
+        if fault:
+            return name, None, self.fault(*fault)
         self.after(machine, event, programs, advances, len(state[4]))
-        after = self.state_of(machine, programs, advances)
-        fault = after != state and self.wrong(machine)
-        return (name, None, self.fault(*fault)) if fault else (name, after, 0)
+        return name, self.state_of(machine, programs, advances), 0
 
     def event_id(self, event, flight):
         return self.events.id((*event[:1], self.messages.id(flight[event[1]])) if event[0] == "Deliver" else event)
@@ -141,14 +140,16 @@ class Whole(Saved):
         elif answer == "Advanced":
             programs[event[1]] = self.programs[event[1]].after(programs[event[1]], None)
 
-    def wrong(self, machine):
-        """A fault of a machine that didn't fail, or None."""
+    def wrong(self, machine, records):
+        """A fault of a machine that didn't fail, and whose first `records` records are legal; or None."""
         owned = [copy.line for core in machine.cores for places in core.sets.values() for copy in places
                  if copy.state == "Exclusive"]
         owned += [m.line for m in machine.flight.values() if m.kind in OWNING]
         twice = sorted({line for line in owned if owned.count(line) > 1})
         if twice:
             return "two owners", twice[0]
+        if len(machine.records) == records:
+            return None
         issued = [list(self.operations(place, machine)) for place in range(self.options.cores)]
         verdict = order.check(self.subject.memory, issued, machine.records)
         return None if verdict == "legal" else (verdict.rstrip("0123456789").rstrip(), "")

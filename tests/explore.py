@@ -7,7 +7,9 @@ by transition. Counts of small searches were worked out by hand. PLAYER plays te
 reference/play.py; the gate has the proved one play. --long compares more, in some minutes. The last line is
 `N tried, M wrong`.
 """
+import contextlib
 import importlib.util
+import io
 import random
 import re
 import shutil
@@ -20,12 +22,14 @@ from types import SimpleNamespace
 
 TOP = Path(__file__).resolve().parent.parent
 sys.path.insert(0, str(TOP))
-from reference.given import NUMBERS  # noqa: E402
+from reference.given import NUMBERS, Bad  # noqa: E402
+from reference.schedules import Pcg32  # noqa: E402
 from reference.traces import Trace  # noqa: E402
-from tests.explored_rules import ANY, FAILING, FAILS, NUMBERED, RIGHT, SB, STORE_AND_LOAD, STUCK  # noqa: E402
+from tests.explored_rules import ANY, FAILING, FAILS, GATHERED, NUMBERED, RIGHT, SB, STORE_AND_LOAD, STUCK  # noqa: E402
 from tests.explored_rules import TWO_STORES, WIDE, WRONG  # noqa: E402
 from tests.texts import ran as ended  # noqa: E402
-from tools.explored import ahead  # noqa: E402
+from tools import explore  # noqa: E402
+from tools.explored import ahead, parts  # noqa: E402
 from tools.explored.frozen import Elsewhere, Numbered, Unread  # noqa: E402
 from tools.explored.parts import MASK, Parts  # noqa: E402
 from tools.explored.reports import Report  # noqa: E402
@@ -319,6 +323,48 @@ def numbered(folder, name, changes):
                 yield f"{name}: {cause}"
 
 
+def gathered(folder):
+    """Faults in states that have sets: they are as many as with sorted lists. Two cores ask in either order."""
+    searches = [searched(module_of(folder, [change])[0], "0 R 0x0\n1 R 0x0\n", {}) for change in GATHERED]
+    of_sets, of_lists = [(len(search.states), search.made, search.depth, [*search.faults], keeps)
+                         for search, keeps in searches]
+    if of_sets != of_lists or of_sets[3:] != ([], ()):
+        yield f"sets in states: {of_sets}, and in lists {of_lists}"
+
+
+def full(folder):
+    """Faults in what is said where a state has no number for a value more. A core that stores is as it began, then with
+    its operation, and then with its request out. In flight are none, the request, it with what it waits for, and the
+    answer, which is the fifth bag and comes before the core has a fifth value."""
+    trace, usual = Path(folder, "full.trace"), parts.MASK
+    trace.write_text("0 W 0x0 1\n")
+    system = searched(module_of(folder, [])[0], "0 W 0x0 1\n", {})[0].system
+    tries = [(lambda: explore.main(["--small", str(trace)]), 1, "core 0"),
+             (lambda: explore.main(["--small", str(trace)]), 3, "the bag of messages"),
+             (lambda: explore.main(["--small", str(trace)]), 7, None),
+             (lambda: system.with_record(0, 0), 0, "the history of words"), (lambda: system.with_record(0, 0), 1, None)]
+    for ask, most, of in tries:
+        parts.MASK = most
+        try:
+            with contextlib.redirect_stdout(io.StringIO()):
+                ask()
+            said = None
+        except (Bad, parts.Full) as cause:
+            said = str(cause)
+        if said != (of and f"{of} has too many values"):
+            yield f"numbers up to {most}: {said}, not of {of}"
+    parts.MASK = usual
+
+
+def walks():
+    """Faults in how far a walk goes where something can always happen: twice as far as the farthest state."""
+    endless = SimpleNamespace(successors=lambda state: [("on", state + 1, 0), ("fails", None, 1)])
+    report = SimpleNamespace(search=SimpleNamespace(states=[0], depth=5), system=endless)
+    walk = list(Report.walk(report, Pcg32.of_seed(0)))
+    if walk != ["on"] * 10:
+        yield f"a walk that never ends goes on for {walk}"
+
+
 # The command line.
 def ran(*words, to=None):
     return ended([EXPLORE, *map(str, words)], text=True, cwd=TOP, input=to)
@@ -346,9 +392,29 @@ def command_line(folder, player):
     # 5,457 states: the ways to 6 of them, and as many walks.
     if all_played.returncode or not re.search(r"^player 12 examples, \d+ answers$", all_played.stdout, re.M):
         yield f"played: {all_played}"
+    yield from said_beside(folder, good)
     yield from kept_in_files(folder, test)
     yield from another_player(folder)
     yield from refused(folder, test)
+
+
+def said_beside(folder, good):
+    """Faults in what is said of the end of time, of speed, and by a player that says something else. A load from time T
+    on is leased to T + 10, and a store behind it takes T + 11."""
+    late = Path(folder, "late.trace")
+    late.write_text("0 R 0x0\n0 W 0x0 1\n")
+    for time, done, says in (2 ** 64 - 12, 1, ""), (2 ** 64 - 11, 0, "exhausted: a time doesn't fit 64 bits\n"):
+        told = ran("--small", "--time", time, late)
+        if told.returncode or f"\nfaults 0\n{says}rows " not in told.stdout or f"\ndone {done}\n" not in told.stdout or \
+                "\nlost 0\n" not in told.stdout:
+            yield f"--time {time}: {told}"
+    for jobs, by in (1, "of one processor"), (2, "by 2 processes"):
+        told = ran("--small", "--speed", "--jobs", jobs, good)
+        if not re.fullmatch(rf"{re.escape(str(good))}: 9 states in \d+\.\d\d s {by}, [\d,]+ a second\n", told.stderr):
+            yield f"--speed by {jobs}: {told}"
+    told = ran("--small", "--player", "sh -c 'echo Good; echo bye; exit 1'", good)
+    if told.returncode != 1 or not re.search(r"lines-never-run .*\nGood\nplayer bye\n\Z", told.stdout):
+        yield f"a player that says something else: {told}"
 
 
 def another_player(folder):
@@ -400,6 +466,18 @@ def refused(folder, test):
         done = ran(*words)
         if (done.returncode, done.stdout) != (2, "") or done.stderr.count("\n") != 1:
             yield f"{words}: {done}"
+    many = Path(folder, "many.trace")
+    for cores, says in (8, ""), (9, f"explore.py: {many} has 9 cores, and 8 is the most\n"):
+        many.write_text(f"{cores - 1} R 0x0\n")
+        done = ran(many)
+        if (done.returncode, bool(done.stdout), done.stderr) != (2 * bool(says), not says, says):
+            yield f"{cores} cores: {done}"
+    nowhere = Path(folder, "none", "kept")
+    for words, says in ((["--jobs", 2, bad, test], f"{bad}: line 1: 5 BadOperation"),
+                        (["--states", 1, "--save", nowhere, test], f"{nowhere}: No such file or directory")):
+        done = ran(*words)
+        if (done.returncode, done.stdout, done.stderr) != (2, "", f"explore.py: {says}\n"):
+            yield f"{words}: {done}"
     cut = subprocess.run(f"'{EXPLORE}' '{test}' | head -n 1", shell=True, capture_output=True, text=True, check=False)
     if cut.stderr or cut.stdout != "subject SB\n":
         yield f"a closed pipe: {cut}"
@@ -418,13 +496,15 @@ def copied(folder):
     name, _, most, _, _, changes = WRONG[0]
     for changes, status, says in [(changes, 1, f"fault two owners of line 0, after {most} events"),
                                   ([("        if core.out:\n", "        if core.out and self.sent > 500:\n")], 2, ""),
-                                  ([("        if core.out:\n", "        if core.out and core.issued[-1]:\n")], 2, "")]:
+                                  ([("        if core.out:\n", "        if core.out and core.issued[-1]:\n")], 2, ""),
+                                  ([("core.done + 1\n", "core.done + 1.0\n")], 2,
+                                   "explore.py: a value of float, and states have none of these\n")]:
         text = MACHINE.read_text(encoding="utf-8")
         for old, new in changes:
             text = text.replace(old, new)
         (mine / "reference/machine.py").write_text(text, encoding="utf-8")
         done = ended([mine / "tools/explore.py", "--found", mine / "found", trace], text=True)
-        if done.returncode != status or says not in done.stdout or (status == 2) != (done.stderr.count("\n") == 1):
+        if done.returncode != status or says not in done.stdout + done.stderr or (status == 2) != (done.stderr.count("\n") == 1):
             yield f"{name}, in a copy: {done}"
         if status == 2:
             continue
@@ -446,8 +526,8 @@ def main():
     with tempfile.TemporaryDirectory() as folder:
         tries = [*(wrong_rule(folder, *of) for of in WRONG), *(right_rule(folder, *of) for of in RIGHT),
                  *(wide(folder, *of) for of in WIDE), *(numbered(folder, *of) for of in NUMBERED),
-                 counts(folder), by_processes(folder), beside_what_is_proved(folder), command_line(folder, player),
-                 copied(folder),
+                 counts(folder), gathered(folder), full(folder), walks(), by_processes(folder),
+                 beside_what_is_proved(folder), command_line(folder, player), copied(folder),
                  *(compared(module_of(folder, changes)[0], text, given)
                    for text, given, changes in [*COMPARED, *(LONG if is_long else [])]),
                  *(compared_if_small(module_of(folder, changes)[0], text, given)

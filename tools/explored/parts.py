@@ -22,7 +22,14 @@ OWNING = ("ExRep", "UpgradeRep", "FlushRep", "WbRep")
 
 
 class Full(Exception):
-    """A part has more values than a state has numbers for."""
+    """A part, the bag or the history has more values than a state has numbers for."""
+
+
+def limited(number, of):
+    """The number of a value of something, if a state has a place for it."""
+    if number > MASK:
+        raise Full(f"{of} has too many values")
+    return number
 
 
 class Bags:
@@ -38,6 +45,7 @@ class Bags:
     def id(self, messages):
         number = self.table.id(messages)
         if number == len(self.count):
+            limited(number, "the bag of messages")
             self.count.append(len(messages))
             self.distinct.append(messages if len(set(messages)) == len(messages) else tuple(dict.fromkeys(messages)))
             self.moved.append({})
@@ -89,8 +97,7 @@ class Parts(Saved):
     def part_id(self, place, value):
         number = self.tables[place].id(value)
         if number == len(self.owned[place]):
-            if number > MASK:
-                raise Full(f"{' '.join(map(str, self.parts[place]))} has too many values")
+            limited(number, " ".join(map(str, self.parts[place])))
             self.owned[place].append(self.lines_owned(place, value))
             if place < self.cores:
                 self.is_end[place].append(self.has_ended(place, value))
@@ -317,7 +324,8 @@ class Parts(Saved):
 
     def with_record(self, number, record):
         after = with_record(self.histories.values[number], self.records.values[record], self.subject.memory)
-        added = False if after is None else self.histories.id(after) - number << self.history_at
+        known = None if after is None else limited(self.histories.id(after), "the history of words")
+        added = False if after is None else known - number << self.history_at
         self.later[number << BITS | record] = added
         return added
 

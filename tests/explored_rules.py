@@ -105,14 +105,19 @@ WIDE = [
          '        if core.out and len(list(self.flight.values())) >= 0:\n            return "Waiting"')]),
     ("a machine has more", ("whole",), [
         ("        self.stopped = False\n", "        self.stopped, self.grants = False, 0\n")]),
+    ("a machine has more once it granted a line", ("whole",), [
+        ("        same = m.version == e.wts\n", "        same = m.version == e.wts\n        self.grants = True\n")]),
 ]
-# Rules with the same states: of each line its bank keeps the cores that asked for it, as a set or in order.
-ASKED = "        same = m.version == e.wts\n"
-GATHERED = [(ASKED, ASKED + keeps) for keeps in (
-    """        e.asked = getattr(e, "asked", None) or set()
-        e.asked.add(8 * m.core)
-""", """        e.asked = sorted({8 * m.core, *(getattr(e, "asked", None) or [])})
-""")]
+# Rules with the same states: of each line its bank keeps the cores that asked for it, as a set or in order, and how many
+# these are.
+ASKED = """        same = m.version == e.wts
+        e.asked, e.count = getattr(e, "asked", {}), getattr(e, "count", 0)
+        assert e.count == len(e.asked)
+        {}
+        e.count = len(e.asked)
+"""
+GATHERED = [("        same = m.version == e.wts\n", ASKED.format(*of)) for of in (
+    ("set()", "e.asked.add(8 * m.core)"), ("[]", "e.asked = sorted({8 * m.core, *e.asked})"))]
 # Rules that read numbers which states don't have, so that they are refused.
 NUMBERED = [
     ("how many messages were sent", [("        if core.out:\n", "        if core.out and self.sent > 500:\n")]),

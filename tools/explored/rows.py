@@ -79,8 +79,6 @@ class Rows:
 
     def attempt(self, machine, core):
         op = machine.cores[core].op
-        if not op:
-            return []
         copy, _ = machine.find(machine.line_at(core), machine.cache_set(core, machine.line_at(core)))
         is_private = op[0] != "load" and machine.o.private_write and copy and copy.written
         what = "load" if op[0] == "load" else "private" if is_private else "write"

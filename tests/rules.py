@@ -56,6 +56,11 @@ WRONG = [
         ('copy.state, copy.written = "Exclusive", False', 'copy.state = "Exclusive"'),
         ('copy.state, copy.written = "Shared", False', 'copy.state = "Shared"')]),
 ]
+NO_SHORTER = "No shorter way was found among the first states: tools/explore.py looks at more."
+SWAP = 'received = copy.words[index] if kind != "store" else None'
+# Rules by which a swap receives what it stores, and that look further: at a number that states don't have, and from a
+# core at a bank. Then, what ends the text: a swap alone needs eight events, one after the other.
+FURTHER = [("self.sent > 0", NO_SHORTER), ("self.mts[0] >= 0", "The shortest way to a fault, of 8 states:")]
 SOUND = [
     ("the rules as they are", []),
     ("a renewal goes further", [
@@ -88,7 +93,8 @@ def ran(changes, *words):
         again = None
         if done.returncode == 1:
             again = ended(["sh", "-c", command_of(done.stdout.splitlines())], text=True)
-            assert done.stdout.endswith(" states:\n" + found.read_text()), "--found writes another text"
+            text = f" states:\n{found.read_text()}" if found.exists() else f"{NO_SHORTER}\n"
+            assert done.stdout.endswith(text), "--found writes another text"
         return done.returncode, done.stdout + done.stderr, again
 
 
@@ -142,6 +148,47 @@ def faults(may_be, most, status, out, again):
     yield from shortest(lines)
 
 
+def line_of(code):
+    """The number of the machine's line that has this."""
+    text = (TOP / "reference/machine.py").read_text(encoding="utf-8")
+    return text[:text.index(code)].count("\n") + 1
+
+
+def of_test():
+    """Faults in what is told of a test, by threads. The machine fails at the first answer, before any record."""
+    test = str(TOP / "examples/litmus/SB.litmus")
+    number = next(number for number in range(300) if try_rule.trial_of(number, []).options.schedule == "threads")
+    status, out, again = ran(WRONG[2][3], "--first", str(number), "--tries", "1", test)
+    fault = f"the machine fails (AttributeError, line {line_of('assert copy.state == ')} of machine.py)"
+    lines = out.splitlines()
+    if status != 1 or lines[:3] != [f"{fault}: try {number}", "The run's records, as far as it got:", "Event by event:"]:
+        yield f"a test, by threads: {status} {out}"
+        return
+    if "oracle.py litmus --trace --schedule threads --limit 500 " not in lines[3] or f" {test} 2>&1" not in lines[3]:
+        yield f"a test's command is {lines[3]}"
+    if "Traceback" not in again.stdout + again.stderr:
+        yield f"a test's command doesn't show the fault: {again}"
+    yield from marked(fault, again.stdout.splitlines())
+    yield from shortest(lines)
+
+
+def further():
+    """Faults in what is told of wrong rules that look further than parts, and of one that fails between events."""
+    for looks, ends in FURTHER:
+        status, out, _ = ran([(SWAP, f"received = value if kind == 'swap' and {looks} else copy.words[index]"
+                                     " if kind != 'store' else None")], "--tries", "300")
+        lines = out.splitlines()
+        if status != 1 or not re.fullmatch(r"wrong value 0: try \d+, cut to 1 steps", lines[0]) or ends not in lines or \
+                ends != NO_SHORTER and len(lines) - lines.index(ends) - 1 != 2 + 8 + 1:
+            yield f"{looks}: {status} {out}"
+    places = "return copies[0].line if not copy"
+    status, out, again = ran([(places, places.replace("0", "16"))], "--tries", "300")
+    said = f"the machine fails (IndexError, line {line_of(places)} of machine.py): try "
+    if status != 1 or not out.startswith(said) or not out.endswith(f"{NO_SHORTER}\n"):
+        yield f"a victim that isn't there: {status} {out}"
+    yield from marked(out.partition(": try ")[0], again.stdout.splitlines() if again else [])
+
+
 def refusals():
     """Faults in how words and files are refused."""
     script = str(TOP / "tools/try_rule.py")
@@ -150,6 +197,9 @@ def refusals():
         done = ended([script, *words], text=True)
         if (done.returncode, done.stdout, done.stderr.count("\n")) != (2, "", 1):
             yield f"{words}: {done.returncode} {done.stdout} {done.stderr}"
+    done = ended([script, "/dev/stdin"], text=True, input="0 X 0x0\n")
+    if (done.returncode, done.stdout, done.stderr) != (2, "", "try_rule.py: /dev/stdin: line 1: 5 BadOperation\n"):
+        yield f"a bad trace: {done}"
     done = ended([script, "--stuck", "--tries", "300"], text=True)
     if done.returncode != 1 or not done.stdout.startswith(STUCK) or "NetworkFull" not in done.stdout:
         yield f"--stuck: {done.stdout} {done.stderr}"
@@ -188,7 +238,7 @@ def draws():
 
 
 def main():
-    wrong = [*refusals(), *draws()]
+    wrong = [*refusals(), *draws(), *of_test(), *further()]
     pool = ThreadPoolExecutor(cpu_count())
     for (name, may_be, most, _), of in zip(WRONG, pool.map(lambda rule: ran(rule[3]), WRONG)):
         wrong += [f"{name}: {fault}" for fault in faults(may_be, most, *of)]
@@ -197,7 +247,7 @@ def main():
     for (name, _), (status, out, _) in zip(SOUND, pool.map(lambda rule: ran(rule[1], "--tries", "300"), SOUND)):
         if status or not re.match(r"300 tries: all legal.*\n\d+ machines, \d+ of \d+ rows", out):
             wrong.append(f"{name}: {status} {out}")
-    print("\n".join([*wrong, f"{13 + len(DRAWN) + len(WRONG) + len(SOUND)} tried, {len(wrong)} wrong"]))
+    print("\n".join([*wrong, f"{16 + len(DRAWN) + len(FURTHER) + len(WRONG) + len(SOUND)} tried, {len(wrong)} wrong"]))
     return int(bool(wrong))
 
 

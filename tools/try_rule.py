@@ -152,9 +152,7 @@ class Trial:
             yield Trial(steps, self.options)
 
     def smallest(self):
-        """This trial, or one with fewer steps that has a fault, too."""
-        if self.test:
-            return self
+        """This trial, or one with fewer steps that has a fault, too. A test has no steps."""
         found = next((run for trial in self.smaller() for run in trial.runs() if run.fault()[0]), None)
         return found.smallest() if found else self
 
@@ -281,7 +279,7 @@ def shortest(trial):
 
 
 def explored(options, subject, how):
-    """The report of a search; None if the rule reads numbers, which states don't have."""
+    """The report of a search; None if the rule reads numbers, which states don't have, or fails between events."""
     keeps = ()
     while True:
         kind, most = (Whole, WHOLE_STATES) if "whole" in keeps else (Parts, STATES)
@@ -294,6 +292,8 @@ def explored(options, subject, how):
             if "whole" in keeps:
                 return None
             keeps = ("whole",)
+        except FAILURES:
+            return None
 
 
 def program_of(path):

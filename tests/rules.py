@@ -155,13 +155,14 @@ def line_of(code):
 
 
 def of_test():
-    """Faults in what is told of a test, by threads. The machine fails at the first answer, before any record."""
+    """Faults in what is said of a test, by threads. The machine fails at the first answer, before any record."""
     test = str(TOP / "examples/litmus/SB.litmus")
     number = next(number for number in range(300) if try_rule.trial_of(number, []).options.schedule == "threads")
     status, out, again = ran(WRONG[2][3], "--first", str(number), "--tries", "1", test)
     fault = f"the machine fails (AttributeError, line {line_of('assert copy.state == ')} of machine.py)"
     lines = out.splitlines()
-    if status != 1 or lines[:3] != [f"{fault}: try {number}", "The run's records, as far as it got:", "Event by event:"]:
+    begins = [f"{fault}: try {number}", "The run's records, as far as it got:", "Event by event:"]
+    if status != 1 or lines[:3] != begins:
         yield f"a test, by threads: {status} {out}"
         return
     if "oracle.py litmus --trace --schedule threads --limit 500 " not in lines[3] or f" {test} 2>&1" not in lines[3]:
@@ -173,13 +174,13 @@ def of_test():
 
 
 def further():
-    """Faults in what is told of wrong rules that look further than parts, and of one that fails between events."""
+    """Faults in what is said of wrong rules that look further than parts, and of one that fails between events."""
     for looks, ends in FURTHER:
         status, out, _ = ran([(SWAP, f"received = value if kind == 'swap' and {looks} else copy.words[index]"
                                      " if kind != 'store' else None")], "--tries", "300")
         lines = out.splitlines()
-        if status != 1 or not re.fullmatch(r"wrong value 0: try \d+, cut to 1 steps", lines[0]) or ends not in lines or \
-                ends != NO_SHORTER and len(lines) - lines.index(ends) - 1 != 2 + 8 + 1:
+        if status != 1 or not re.fullmatch(r"wrong value 0: try \d+, cut to 1 steps", lines[0]) or \
+                ends not in lines or ends != NO_SHORTER and len(lines) - lines.index(ends) - 1 != 2 + 8 + 1:
             yield f"{looks}: {status} {out}"
     places = "return copies[0].line if not copy"
     status, out, again = ran([(places, places.replace("0", "16"))], "--tries", "300")

@@ -191,6 +191,7 @@ COMPARED = [
     ("0 W 0x0 1\n1 W 0x8 1\n", {"messages": 2}, []),
     ("0 W 0x0 1\n1 S 0x8 2\n", {"line_words": 8}, []), ("0 W 0x0 1\n1 R 0x8\n", {"banks": 2, "evict": "any"}, []),
     ("0 R 0x0\n0 W 0x0 1\n", {"time": 2 ** 64 - 11}, []),
+    (STORE_AND_LOAD, {}, RIGHT[-1][-1]),
     *((text, given, changes) for _, kind, most, text, given, changes in WRONG if most < 16)]
 LONG = [(SB, {"evict": "any"}, []), *((text, given, changes) for _, _, _, text, given, changes in WRONG),
         *((text, given, changes) for _, text, given, changes in RIGHT)]
@@ -405,8 +406,8 @@ def said_beside(folder, good):
     late.write_text("0 R 0x0\n0 W 0x0 1\n")
     for time, done, says in (2 ** 64 - 12, 1, ""), (2 ** 64 - 11, 0, "exhausted: a time doesn't fit 64 bits\n"):
         told = ran("--small", "--time", time, late)
-        if told.returncode or f"\nfaults 0\n{says}rows " not in told.stdout or f"\ndone {done}\n" not in told.stdout or \
-                "\nlost 0\n" not in told.stdout:
+        lines = f"\ndone {done}\n", "\nlost 0\n", f"\nfaults 0\n{says}rows "
+        if told.returncode or not all(one in told.stdout for one in lines):
             yield f"--time {time}: {told}"
     for jobs, by in (1, "of one processor"), (2, "by 2 processes"):
         told = ran("--small", "--speed", "--jobs", jobs, good)
@@ -504,7 +505,8 @@ def copied(folder):
             text = text.replace(old, new)
         (mine / "reference/machine.py").write_text(text, encoding="utf-8")
         done = ended([mine / "tools/explore.py", "--found", mine / "found", trace], text=True)
-        if done.returncode != status or says not in done.stdout + done.stderr or (status == 2) != (done.stderr.count("\n") == 1):
+        if done.returncode != status or says not in done.stdout + done.stderr or \
+                (status == 2) != (done.stderr.count("\n") == 1):
             yield f"{name}, in a copy: {done}"
         if status == 2:
             continue

@@ -20,6 +20,9 @@ LEASED = "        if load:\n            e.rts = max(e.rts, fit(e.wts"
 OWNS = """if load and e.rts == e.wts and not same:
             load, e.state, e.owner = False, "Exclusive", m.core
         elif load:"""
+UPGRADED = """            if m.kind == "UpgradeRep":
+                copy.state, copy.written = "Exclusive", False
+"""
 TIMES = "copy.wts, copy.rts, copy.words[index], copy.written = time, time, value, True"
 
 # What is wrong, how it shows, after how many events, in which trace on which machine, and the change.
@@ -87,6 +90,8 @@ RIGHT = [
         ('if m.kind in ("ShRep", "ExRep"):', 'if m.kind in ("ShRep", "Grant"):')]),
     ("a store leases its line at once", STORE_AND_LOAD + "1 W 0x0 2\n", ANY, [
         (TIMES, TIMES.replace("time, time, value", "time, fit(time + self.o.lease), value"))]),
+    ("an answer completes its operation", STORE_AND_LOAD, {}, [
+        (UPGRADED, UPGRADED + "        self.complete(m.core, *self.find(m.line, copies))\n")]),
 ]
 # Rules for which states must have more, with what a search then keeps.
 WIDE = [
@@ -103,13 +108,14 @@ WIDE = [
     ("a core looks at all messages", ("whole",), [
         ('        if core.out:\n            return "Waiting"',
          '        if core.out and len(list(self.flight.values())) >= 0:\n            return "Waiting"')]),
+    ("a bank completes what it grants", ("whole",), [
+        (LEASED, "        self.records.append(Record(m.core, 0, 'load', line, None, 0, 0, len(self.records)))\n" + LEASED)]),
     ("a machine has more", ("whole",), [
         ("        self.stopped = False\n", "        self.stopped, self.grants = False, 0\n")]),
     ("a machine has more once it granted a line", ("whole",), [
         ("        same = m.version == e.wts\n", "        same = m.version == e.wts\n        self.grants = True\n")]),
 ]
-# Rules with the same states: of each line its bank keeps the cores that asked for it, as a set or in order, and how many
-# these are.
+# Rules with the same states: a bank keeps the cores that asked for a line, as a set or in order, and their number.
 ASKED = """        same = m.version == e.wts
         e.asked, e.count = getattr(e, "asked", {}), getattr(e, "count", 0)
         assert e.count == len(e.asked)

@@ -159,6 +159,8 @@ class Parts(Saved):
         after, fault, record = made.value, None, None
         if place < self.cores:
             after, fault, record = self.after_core(place, value, event, made)
+        elif made.records:
+            raise Elsewhere("an operation completes at a bank or at DRAM")
         if fault:
             return (name, 0, None, None, None, fault), made
         move, sent = None, tuple(map(self.message_id, made.sent))

@@ -131,10 +131,10 @@ class Whole(Saved):
         return ("exhausted", "") if answer == "Exhausted" else None
 
     def after(self, machine, event, programs, advances, records):
-        """What an event does to its core's program."""
+        """What an event does to programs: completions, and an advance of its core."""
         answer = vars(machine).pop("answer")
         for record in machine.records[records:]:
-            programs[event[1]] = self.programs[event[1]].after(programs[event[1]], record.received)
+            programs[record.core] = self.programs[record.core].after(programs[record.core], record.received)
         if answer == "Advanced" and len(event) > 2:
             advances[event[1]] += 1
         elif answer == "Advanced":

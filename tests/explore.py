@@ -25,8 +25,8 @@ sys.path.insert(0, str(TOP))
 from reference.given import NUMBERS, Bad  # noqa: E402
 from reference.schedules import Pcg32  # noqa: E402
 from reference.traces import Trace  # noqa: E402
-from tests.explored_rules import ANY, FAILING, FAILS, GATHERED, NUMBERED, RIGHT, SB, STORE_AND_LOAD, STUCK  # noqa: E402
-from tests.explored_rules import TWO_STORES, WIDE, WRONG  # noqa: E402
+from tests.explored_rules import ANY, FAILING, FAILS, GATHERED, MISNAMED, NUMBERED, RIGHT, SB, STUCK  # noqa: E402
+from tests.explored_rules import STORE_AND_LOAD, TWO_STORES, WIDE, WRONG  # noqa: E402
 from tests.texts import ran as ended  # noqa: E402
 from tools import explore  # noqa: E402
 from tools.explored import ahead, parts  # noqa: E402
@@ -191,7 +191,7 @@ COMPARED = [
     ("0 W 0x0 1\n1 W 0x8 1\n", {"messages": 2}, []),
     ("0 W 0x0 1\n1 S 0x8 2\n", {"line_words": 8}, []), ("0 W 0x0 1\n1 R 0x8\n", {"banks": 2, "evict": "any"}, []),
     ("0 R 0x0\n0 W 0x0 1\n", {"time": 2 ** 64 - 11}, []),
-    (STORE_AND_LOAD, {}, RIGHT[-1][-1]),
+    (STORE_AND_LOAD, {}, RIGHT[-1][-1]), MISNAMED[3:],
     *((text, given, changes) for _, kind, most, text, given, changes in WRONG if most < 16)]
 LONG = [(SB, {"evict": "any"}, []), *((text, given, changes) for _, _, _, text, given, changes in WRONG),
         *((text, given, changes) for _, text, given, changes in RIGHT)]
@@ -526,7 +526,7 @@ def main():
     wrong, named = [], [word for word in sys.argv[1:] if not word.startswith("-")]
     player = Path(named[0]).resolve() if named else TOP / "reference/play.py"
     with tempfile.TemporaryDirectory() as folder:
-        tries = [*(wrong_rule(folder, *of) for of in WRONG), *(right_rule(folder, *of) for of in RIGHT),
+        tries = [*(wrong_rule(folder, *of) for of in [*WRONG, MISNAMED]), *(right_rule(folder, *of) for of in RIGHT),
                  *(wide(folder, *of) for of in WIDE), *(numbered(folder, *of) for of in NUMBERED),
                  counts(folder), gathered(folder), full(folder), walks(), by_processes(folder),
                  beside_what_is_proved(folder), command_line(folder, player), copied(folder),

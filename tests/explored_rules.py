@@ -69,10 +69,12 @@ WRONG = [
     ("a swap receives what it stores", VALUE, 8, "0 S 0x0 1\n", {}, [
         ('received = copy.words[index] if kind != "store" else None',
          'received = dict(load=copy.words[index], swap=value, store=None)[kind]')]),
-    ("all records are core 0's", ORDER, 8, "1 W 0x0 1\n", {}, [("Record(number, core.done", "Record(0, core.done")]),
     ("each completion is recorded twice", ORDER, 8, "0 W 0x0 1\n0 W 0x0 2\n", {}, [
         ("        self.records.append(", "        for _ in (1, 2): self.records.append(")]),
 ]
+# One more. Where core 0 has the same operation there, parts find a fault, and whole machines none. So it isn't drawn.
+MISNAMED = ("all records are core 0's", ORDER, 8, "1 W 0x0 1\n", {}, [
+    ("Record(number, core.done", "Record(0, core.done")])
 # Where those fail that the machine has no case for, and how.
 FAILING = {"no copy has version 0": ("AttributeError", 'assert copy.state == "Shared"'),
            "a grant looks for an owner where none was": ("AttributeError", "        same = m.version")}
@@ -109,7 +111,8 @@ WIDE = [
         ('        if core.out:\n            return "Waiting"',
          '        if core.out and len(list(self.flight.values())) >= 0:\n            return "Waiting"')]),
     ("a bank completes what it grants", ("whole",), [
-        (LEASED, "        self.records.append(Record(m.core, 0, 'load', line, None, 0, 0, len(self.records)))\n" + LEASED)]),
+        (LEASED, "        self.records.append(Record(m.core, 0, 'load', line, None, 0, 0, len(self.records)))\n"
+         + LEASED)]),
     ("a machine has more", ("whole",), [
         ("        self.stopped = False\n", "        self.stopped, self.grants = False, 0\n")]),
     ("a machine has more once it granted a line", ("whole",), [

@@ -197,7 +197,7 @@ class Changes:
         kinds = (self.of_numbers, self.of_signs, self.of_names, self.of_lists, self.of_branches, self.of_results,
                  self.of_loops, self.of_statements)
         found = {Place(*place): None for kind in kinds for place in kind()}
-        return sorted(place for place in found if self.said(place.first, place.last) != place.made.strip("\n"))
+        return sorted(place for place in found if self.said(place.first, place.last).split() != place.made.split())
 
     def said(self, first, last):
         return self.text[first:last].decode()

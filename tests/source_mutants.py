@@ -132,16 +132,19 @@ class Proved:
             self.symbols = set(Said(said).functions)
 
     def symbol_of(self, mutant):
-        """What the prover calls the function; None if that isn't plain. An impl of a trait has longer names."""
+        """What the prover calls the function; None if that isn't plain."""
         return self.known(mutant.symbol)
 
     def known(self, symbol):
+        """A function of a type is called by the type's module, where its impl may not stand. An impl of a trait has
+        longer names."""
         if symbol in self.symbols:
             return symbol
         *above, owner, name = symbol.split("::")
         start = "::".join(above)
-        found = [other for other in self.symbols if other.startswith(f"{start}::{owner[:3]}")
-                 and other.endswith(f"::{name}") and other.count("::") == symbol.count("::")]
+        found = [other for other in self.symbols if other.endswith(f"::{owner}::{name}")] or [
+            other for other in self.symbols if other.startswith(f"{start}::{owner[:3]}")
+            and other.endswith(f"::{name}") and other.count("::") == symbol.count("::")]
         return found[0] if len(found) == 1 else None
 
     def callers(self, mutants):
@@ -385,6 +388,7 @@ BY_HAND = [
     ("Vec<u64>", "f::<Vec<u64>>(a, b)", ["a, b => b, a"]),
     ("Pair", "Pair { low: a, high, is_there: !c }",
      ["low: a, high => low: high, high: a", "high, is_there: !c => high: !c, is_there: high", "! =>"]),
+    ("Pair", "Pair { low: a,\n    high: a, is_there: b }", ["high: a, is_there: b => high: b, is_there: a"]),
     ("Way", "Way::In", ["In => Out"]), ("Way", "Way::Far(a)", []), ("Way", "a.low", ["low => high"]),
     ("Way", "a.low()", []), ("Way", "a.max(b)", ["max => min"]), ("Way", "self.is_there", []),
     ("bool", "true", ["=> return false;", "=> return true;", "true => false"]),
@@ -441,5 +445,10 @@ def self_test():
         yield f"refused for themselves: {came}"
     if not said.is_refused("a::g", ["a::g", "a::h"]) or said.is_refused("a::n", ["a::n", "a::h", "a::k"]):
         yield "what rests on another change is taken for refused, or what doesn't isn't"
+    proved = Proved.__new__(Proved)
+    proved.symbols = {"a::b::Pair::f", "a::b::Way::g", "a::c::Way::g", "a::c::WayT::h"}
+    names = ["a::b::Pair::f", "a::d::Pair::f", "a::c::Way::g", "a::d::Way::g", "a::c::WayOrd::h", "a::d::WayOrd::h"]
+    if [proved.known(name) for name in names] != [names[0], names[0], names[2], None, "a::c::WayT::h", None]:
+        yield "what the prover calls functions"
     if excused("# a\nb.rt | f | c | d => e | why\n") != {("b.rt", "f", "c | d => e")}:
         yield "the table is read in another way"

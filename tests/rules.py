@@ -235,6 +235,9 @@ def draws():
         yield f"drawn programs have {steps}"
     if any(("--seed" in trial.words()) != (trial.options.schedule == "seed") for trial in trials):
         yield "a command lacks the seed, or names one that its schedule doesn't take"
+    if any(("trace 2" in trial.lines()) != any(step[0] == "advance" for of in trial.steps for step in of)
+           for trial in trials):
+        yield "a trace has a line for advances, and none, or it has advances without that line"
     status, out, _ = ran(WRONG[1][3], "--first", "33")  # a wrong rule that is found before
     if status != 1 or not 33 <= int(out.partition(": try ")[2].partition(",")[0]):
         yield f"--first 33: {out.splitlines()[:1]}"
@@ -250,7 +253,7 @@ def main():
     for (name, _), (status, out, _) in zip(SOUND, pool.map(lambda rule: ran(rule[1], "--tries", "300"), SOUND)):
         if status or not re.match(r"300 tries: all legal.*\n\d+ machines, \d+ of \d+ rows", out):
             wrong.append(f"{name}: {status} {out}")
-    print("\n".join([*wrong, f"{17 + len(DRAWN) + len(FURTHER) + len(WRONG) + len(SOUND)} tried, {len(wrong)} wrong"]))
+    print("\n".join([*wrong, f"{18 + len(DRAWN) + len(FURTHER) + len(WRONG) + len(SOUND)} tried, {len(wrong)} wrong"]))
     return int(bool(wrong))
 
 

@@ -475,7 +475,8 @@ def refused(folder, test):
             yield f"{cores} cores: {done}"
     nowhere = Path(folder, "none", "kept")
     for words, says in ((["--jobs", 2, bad, test], f"{bad}: line 1: 5 BadOperation"),
-                        (["--states", 1, "--save", nowhere, test], f"{nowhere}: No such file or directory")):
+                        (["--states", 1, "--save", nowhere, test], f"{nowhere}: No such file or directory"),
+                        (["--resume", nowhere, test], f"{nowhere}: No such file or directory")):
         done = ran(*words)
         if (done.returncode, done.stdout, done.stderr) != (2, "", f"explore.py: {says}\n"):
             yield f"{words}: {done}"

@@ -215,6 +215,8 @@ TEXTS = [
     # A location may have a thread's name.
     (".litmus", PLAIN + "{ 1:x6=x;\nP0=2; }\n P0 | P1 ;\n li x5,1 ;\nexists x=0\n", [
         "line 5", "7 BadTable", "The row has 1 cell, and there are 2 threads"]),
+    (".litmus", PLAIN + "{ 1:x6=x;\nP0=x; }\n P0 | P1 ;\nexists x=0\n", [
+        "line 3", "5 BadInitial", "A location opens with a number"]),
     (".litmus", PLAIN + "{ 1:x6=x;\nP0=2; }\n P0 | P1 ;\nexists 2:x7=0\n", [
         "line 5", "13 BadCondition", "There is no thread 2: the table has 2, from P0 on."]),
     (".trace", "x R 0x0\n", ["CORE: `x`", "4 BadCore", "begins with the core, a number alone"]),

@@ -352,9 +352,10 @@ def full(folder):
             said = None
         except (Bad, parts.Full) as cause:
             said = str(cause)
+        finally:
+            parts.MASK = usual
         if said != (of and f"{of} has too many values"):
             yield f"numbers up to {most}: {said}, not of {of}"
-    parts.MASK = usual
 
 
 def walks():

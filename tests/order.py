@@ -108,11 +108,14 @@ def looks_at_all(tester, operations, has_order, settings):
     search alone."""
     problem, parts = Problem(operations, **settings), []
     if layers.fits(problem):
-        found = layers.Layers(problem).run()
+        looked = layers.Layers(problem)
+        found = looked.run()
         tester.expect((found is not None) == has_order, f"layers: {found} of {text_of(operations)}")
         if found:
             tester.confirms(operations, found, opening=problem.opening)
         else:
+            reach = looked.reach()[:len(problem.chains)]
+            tester.expect(reach == farthest(problem), f"layers reach {reach} of {text_of(operations)}")
             parts.append(Stuck(operations, settings, float("inf")))
     if problem.is_plain and not has_order:
         parts.append(Least(operations, settings, float("inf")))
@@ -120,6 +123,24 @@ def looks_at_all(tester, operations, has_order, settings):
         kept = Problem([operations[node] for node in part.nodes])
         lines = list(reasons.lines_of_set(kept, part.is_least, part.cores if part is not parts[-1] else ()))
         tester.expect(set_holds(operations, lines, problem.opening), f"{lines} of {text_of(operations)}")
+
+
+def farthest(problem):
+    """How many operations of each chain can be performed, at most, one after the other in all ways."""
+    chains, seen, left = problem.chains, set(), [((0,) * len(problem.chains), ())]
+    while left:
+        state = places, memory = left.pop()
+        if state in seen:
+            continue
+        seen.add(state)
+        for chain in (chain for chain, nodes in enumerate(chains) if places[chain] < len(nodes)):
+            one = problem.operations[chains[chain][places[chain]]]
+            values = dict(memory)
+            if one.received in (None, values.get(one.address, problem.opening.get(one.address, 0))):
+                values |= {} if one.written is None else {one.address: one.written}
+                after = (*places[:chain], places[chain] + 1, *places[chain + 1:])
+                left.append((after, tuple(sorted(values.items()))))
+    return [max(places[chain] for places, _ in seen) for chain in range(len(chains))]
 
 
 def asks(tester, operations, has_order, settings, is_run):

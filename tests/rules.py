@@ -57,10 +57,12 @@ WRONG = [
         ('copy.state, copy.written = "Shared", False', 'copy.state = "Shared"')]),
 ]
 NO_SHORTER = "No shorter way was found among the first states: tools/explore.py looks at more."
+NO_SEARCH = "No shorter way was looked for, since the rule reads numbers that states don't have, or fails between " \
+    "events."
 SWAP = 'received = copy.words[index] if kind != "store" else None'
 # Rules by which a swap receives what it stores, and that look further: at a number that states don't have, and from a
 # core at a bank. Then, what ends the text: a swap alone needs eight events, one after the other.
-FURTHER = [("self.sent > 0", NO_SHORTER), ("self.mts[0] >= 0", "The shortest way to a fault, of 8 states:")]
+FURTHER = [("self.sent > 0", NO_SEARCH), ("self.mts[0] >= 0", "The shortest way to a fault, of 8 states:")]
 SOUND = [
     ("the rules as they are", []),
     ("a renewal goes further", [
@@ -93,8 +95,8 @@ def ran(changes, *words):
         again = None
         if done.returncode == 1:
             again = ended(["sh", "-c", command_of(done.stdout.splitlines())], text=True)
-            text = f" states:\n{found.read_text()}" if found.exists() else f"{NO_SHORTER}\n"
-            assert done.stdout.endswith(text), "--found writes another text"
+            texts = f" states:\n{found.read_text()}" if found.exists() else (f"{NO_SHORTER}\n", f"{NO_SEARCH}\n")
+            assert done.stdout.endswith(texts), "--found writes another text"
         return done.returncode, done.stdout + done.stderr, again
 
 
@@ -180,7 +182,7 @@ def further():
                                      " if kind != 'store' else None")], "--tries", "300")
         lines = out.splitlines()
         if status != 1 or not re.fullmatch(r"wrong value 0: try \d+, cut to 1 steps", lines[0]) or \
-                ends not in lines or ends != NO_SHORTER and len(lines) - lines.index(ends) - 1 != 2 + 8 + 1:
+                ends not in lines or ends != NO_SEARCH and len(lines) - lines.index(ends) - 1 != 2 + 8 + 1:
             yield f"{looks}: {status} {out}"
     places = "return copies[0].line if not copy"
     status, out, again = ran([(places, places.replace("0", "16"))], "--tries", "300")

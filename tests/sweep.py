@@ -331,7 +331,7 @@ def compared(tester):
 def reportless(tester):
     """A program that prints no report, or a part of one, makes the row fail."""
     kept, os.environ["TARDIS"] = os.environ["TARDIS"], str(Path("reportless").resolve())
-    for number, change in enumerate(("s/.*/none/", "s/.*/no report/", "/^renewals /d")):
+    for number, change in enumerate(("s/.*/none/", "s/.*/no report/", "/^renewals /d", "s/ .*//")):
         Path("reportless").write_text(f"#!/bin/sh\n'{kept}' \"$@\" | sed '{change}'\n")
         Path("reportless").chmod(0o755)
         table = f"reportless{number}.csv"

@@ -218,6 +218,7 @@ advance 0
 # Lines are named by their numbers, and by other words that they have.
 NAMED = """example named
 machine cores 1 line-words 8
+evict core 0 0x78
 issue 0 R 0x48
 attempt 0
 deliver m0
@@ -239,12 +240,13 @@ SAID_LAST = [
      "The core's operation isn't completed yet, so it is issued no other."],
     ["refused Exhausted", "The advance of core 0 is refused: Exhausted",
      "A sum of times doesn't fit 64 bits. The machine stops here."]]
+SAID_NAMED = [["refused NoSuch", "The line of 0x48 can't leave: NoSuch", "It isn't there."]]
 LEAVES = ["The line of 0x48 leaves core 0's cache", "The line of 0x48 leaves the bank"]
 
 
 def refused_events(player, folder):
     """What a page says of events that are refused, and of lines that leave."""
-    for text, wanted in ((FULL, SAID), (LAST, SAID_LAST), (NAMED, [])):
+    for text, wanted in ((FULL, SAID), (LAST, SAID_LAST), (NAMED, SAID_NAMED)):
         (folder / "full.events").write_text(text)
         status, said = written(player, [str(folder / "full.events")], folder / "full.html")
         data = data_of(folder / "full.html")
@@ -261,13 +263,15 @@ def refused_events(player, folder):
 BAD_TEXTS = [("# few\n\nexample x\nmachine cores 2 : opened\n", " has 0 events, and a page shows 1 to 5,000\n"),
              ("example x\nmachine\nrepeat 5001 advance 0\n", " has 5001 events, and a page shows 1 to 5,000\n"),
              ("example x\nmachine\nissue 0 Q 0x0\n", ":3: "),
-             ("example x\nmachine\nadvance 0\nmachine cores 1\n", ":4: `machine cores 1`: a page shows the events of"),
-             *((f"example x\nmachine\nadvance 0\n{call}\n", f":4: `{call}`: a page shows the events of one machine")
+             ("example x\nmachine\nadvance 0\nmachine cores 1\n", ":4: `machine cores 1`: a page shows one machine"),
+             *((f"example x\nmachine\nadvance 0\n{call}\n", f":4: `{call}`: a page shows one machine, and each event")
                for call in ("reopen", "run advance 0; advance 0", "rounds 9", "fair-rounds 9", "seed 1 9")),
-             (f"example x\nmachine time {2 ** 64 - 1}\nadvance 0\nattempt 0\n", ": `attempt 0` is answered `refused"),
-             *((f"example x\nmachine cores 1\n{call}\n", f": `{call}` is answered `{said}`, and a page shows no such")
+             (f"example x\nmachine time {2 ** 64 - 1}\nadvance 0\nattempt 0\n",
+              ":4: `attempt 0` is answered `refused Stopped`"),
+             *((f"example x\nmachine cores 1\n{call}\n", f":3: `{call}` is answered `{said}`, and a page shows no such")
                for call, said in (("attempt 0", "idle"), *((call, "refused NoSuch") for call in (
-                   "advance 1", "deliver m0", "issue 1 R 0x0", "attempt 1", "evict bank 0 0x0", "evict core 0 0"))))]
+                   "advance 1", "deliver m0", "issue 1 R 0x0", "attempt 1", "evict bank 0 0x0", "evict core 0 0",
+                   "evict core 1 0", "evict bank 1 0"))))]
 
 
 def bad_texts(player, folder):
@@ -298,6 +302,7 @@ def refusals(player, folder):
     yield from bad_players()
     yield from refused_events(player, folder)
     yield from bad_texts(player, folder)
+    (folder / "full.events").write_text(NAMED)
     (folder / "bad.events").write_text("example x\nmachine cores 99 : opened\nissue 0 R 0x0 : issued\n")
     (folder / "huge.trace").write_text("".join(f"{n % 8} W 0x0 {n}\n" for n in range(900)))
     for words, status, says in (([folder / "huge.trace"], 2, "a page shows 5,000 at most"),

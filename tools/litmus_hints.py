@@ -98,7 +98,7 @@ def of_condition(text, line):
 
 def of_block(line):
     """What a line in which the initial block can't go on may mean."""
-    if re.match(r"[ \t]*P0\b", line):
+    if re.match(r"[ \t]*P0[ \t\r]*([|;]|$)", line) and "}" not in line:
         return "The initial block has no `}` before the table."
     if re.search(r"\{.*\{", line):
         return "Arrays have no counterpart here: each word is a location of its own."

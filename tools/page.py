@@ -15,8 +15,8 @@ Of a litmus test the page shows the question, which core runs which thread, the 
 the verdict.
 
 FILE may also be a text of events, as tools/explore.py writes it: its first example is shown. A comment behind an event
-stands in its headline, and the machine is that of the text. A text that drives by rounds or a seed, opens a machine
-again, names what isn't there or goes on when the machine has stopped is refused.
+stands in its headline, and the machine is that of the text. A text that drives, opens
+a machine again, has an event of what isn't there or goes on when the machine has stopped is refused.
 
 The status is 1 if the run isn't all done; the page then shows it as far as it went, and says how it ended. It is 1,
 too, if the history isn't legal, as a changed rule may make it; the page then marks the first wrong record.

@@ -258,7 +258,7 @@ class Sweep:
     def report(self, file, chosen):
         printed = program.run("trace", *options_of(chosen), file).splitlines()
         lines = dict(line.partition(" ")[::2] for line in printed)
-        if not set(REPORT) <= lines.keys():
+        if not all(map(lines.get, REPORT)):
             raise Bad("the program prints no report")
         return {name: lines[name] for name in REPORT}
 

@@ -269,13 +269,17 @@ def shortest(trial):
     subject = SimpleNamespace(test=trial.test, trace=SimpleNamespace(steps=steps), cores=cores,
                               memory=trial.test.memory if trial.test else {})
     options = SimpleNamespace(**{**vars(trial.options), "cores": cores})
-    for advances, evict in product(range(4), ("demand", "any")):
-        report = explored(options, subject, SimpleNamespace(evict=evict, advances=advances))
-        if report and not report.is_good:
+    reports = (explored(options, subject, SimpleNamespace(evict=evict, advances=advances))
+               for advances, evict in product(range(4), ("demand", "any")))
+    is_looked = False
+    for report in filter(None, reports):
+        is_looked = True
+        if not report.is_good:
             yield f"The shortest way to a fault, of {len(report.search.states)} states:"
             yield from report.texts()[0]
             return
-    yield "No shorter way was found among the first states: tools/explore.py looks at more."
+    yield "No shorter way was found among the first states: tools/explore.py looks at more." if is_looked else \
+        "No shorter way was looked for, since the rule reads numbers that states don't have, or fails between events."
 
 
 def explored(options, subject, how):
@@ -292,7 +296,9 @@ def explored(options, subject, how):
             if "whole" in keeps:
                 return None
             keeps = ("whole",)
-        except FAILURES:
+        except FAILURES as error:
+            if ", line " not in failure(error, machine):  # it isn't the rule that fails
+                raise
             return None
 
 

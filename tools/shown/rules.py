@@ -230,7 +230,8 @@ class Rules:
     def evict(self, step, before, of, answer):
         name = self.name(step.line)
         if answer[0] == "refused":
-            return f"{name} can't leave: {answer[1]}", "A pinned copy, or a line that is under way, stays.", EVENTS
+            why = "A pinned copy, or a line that is under way, stays."
+            return f"{name} can't leave: {answer[1]}", "It isn't there." if answer[1] == "NoSuch" else why, EVENTS
         if of[0] == "core":
             copy = fields(before[f"copy {of[1]} {step.line}"])
             why = "A Shared copy leaves without a message." if copy.kind == "shared" else \

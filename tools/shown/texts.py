@@ -1,7 +1,7 @@
 """A run that is a text of events (docs/EVENTS.md), as tools/explore.py writes it: its first example, event by event.
 
 The programs are what the cores are issued there. A comment behind an event stands in the page's headline. A text that
-drives, opens a machine again, names what isn't there or goes on when the machine has stopped has no page.
+drives, opens a machine again, has an event of what isn't there or goes on when the machine has stopped has no page.
 """
 from pathlib import Path
 from types import SimpleNamespace
@@ -39,18 +39,19 @@ class Text:
         if example.fault:
             raise Bad("{}:{}: {}".format(path, *example.fault))
         self.path, self.kind, self.events, self.notes = path, example.title or Path(path).name, [], {}
-        self.machine = None
+        self.machine, self.numbers = None, []
         lines = text.split("\n")
         for line, _, call, _ in example.lines():
             name, of = MachinePlayer.read(call)
             if name in OTHERS or name == "machine" and self.machine:
-                raise Bad(f"{path}:{line.number}: `{call}`: a page shows the events of one machine, each by its line")
+                raise Bad(f"{path}:{line.number}: `{call}`: a page shows one machine, and each event by its line")
             if name == "machine":
                 self.machine, self.memory = call, of[1]
                 self.open_with(of[0])
             elif name in EVENTS:
                 self.notes[len(self.events)] = lines[line.number - 1].partition("#")[2].strip()
                 self.events.append((call, event_of(name, of)))
+                self.numbers.append(line.number)
         if not self.events or len(self.events) > MOST_EVENTS:
             raise Bad(f"{path} has {len(self.events)} events, and a page shows 1 to {MOST_EVENTS:,}")
         words = {of[2][1] for _, of in self.events if of[0] == "Issue"} | set(self.memory)
@@ -100,9 +101,14 @@ class PlayedText(Played):
     def programs_of(self, answers):
         """What is issued and advanced, by these answers to the events."""
         programs = [[] for _ in range(self.text.cores)]
-        for (call, (name, core, *of)), said in zip(self.text.events, answers):
-            if said in ("idle", "refused NoSuch", "refused Stopped"):
-                raise Bad(f"{self.text.path}: `{call}` is answered `{said}`, and a page shows no such event")
+        for (call, (name, part, *of)), number, said in zip(self.text.events, self.text.numbers, answers):
+            if said in ("idle", "refused Stopped") or said == "refused NoSuch" and not self.shows(name, part, call):
+                raise Bad(f"{self.text.path}:{number}: `{call}` is answered `{said}`, and a page shows no such event")
             if said in ("issued", "advanced"):
-                programs[core].append(of[0] if name == "Issue" else ADVANCE)
+                programs[part].append(of[0] if name == "Issue" else ADVANCE)
         return programs
+
+    def shows(self, name, part, call):
+        """Whether the page has the part and the line of an eviction."""
+        parts = {"EvictCache": self.text.cores, "EvictBank": self.options.banks}.get(name, 0)
+        return part < parts and self.line_named(call.split(" ")[3]) in self.lines()
